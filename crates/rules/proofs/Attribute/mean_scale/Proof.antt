@@ -1,0 +1,63 @@
+use borrow.Author.Tests.{le-leb, lt-leb}
+use Rattle.rules.specs.Attributes.{meanScale}
+use borrow.Author.Needs.{needs}
+use Rattle.rules.proofs.Attribute.mean_scale.Statement.{statement}
+use Rattle.rules.proofs.Attribute.mean_scale.Tie as tie
+use Rattle.rules.proofs.Attribute.mean_scale.Reads as reads
+use Rattle.rules.proofs.Attribute.mean_scale.Lts as lts
+
+-- src/lib.rt:94:37
+enum-told : tie.Need-enum-told
+enum-told c = search needs
+
+-- src/lib.rt:95:42
+enum-told-2 : tie.Need-enum-told-2
+enum-told-2 c = search needs
+
+-- src/lib.rt:96:36
+enum-told-3 : tie.Need-enum-told-3
+enum-told-3 c = search needs
+
+-- src/lib.rt:90:5
+returns : tie.Need-returns
+unfolding meanScale
+returns c = (simp (c .before .enum-told .given .1, le-leb _ _ (c .if1 .taken)), search needs)
+
+-- src/lib.rt:90:5
+returns-2 : tie.Need-returns-2
+unfolding meanScale
+returns-2 c = (simp (c .before .enum-told .given .1, lt-leb _ _ (c .if1 .left)), search needs)
+
+-- src/lib.rt:90:5
+returns-3 : tie.Need-returns-3
+unfolding meanScale
+returns-3 c = (simp (c .before .enum-told2 .given .1, le-leb _ _ (c .if2 .taken)), search needs)
+
+-- src/lib.rt:90:5
+returns-4 : tie.Need-returns-4
+unfolding meanScale
+returns-4 c = (simp (c .before .enum-told2 .given .1, lt-leb _ _ (c .if2 .left)), search needs)
+
+-- src/lib.rt:90:5
+returns-5 : tie.Need-returns-5
+unfolding meanScale
+returns-5 c = (simp (c .before .enum-told3 .given .1, le-leb _ _ (c .if3 .taken)), search needs)
+
+-- src/lib.rt:90:5
+returns-6 : tie.Need-returns-6
+unfolding meanScale
+returns-6 c = (simp (c .before .enum-told3 .given .1, lt-leb _ _ (c .if3 .left)), search needs)
+
+pub mean-scale-spec : {M : Type 1} → statement M
+mean-scale-spec =
+    tie.close
+    (tie.spec
+    enum-told
+    enum-told-2
+    enum-told-3
+    returns
+    returns-2
+    returns-3
+    returns-4
+    returns-5
+    returns-6)

@@ -1,0 +1,52 @@
+-- What a line says: the frame that it is, or a bad line.
+use mathlib.Core.Bool.{Bool, true, false, _&&_}
+use mathlib.Core.List.{List}
+use Prim.Native.Nat.{ℕ}
+use lib.Dec.{eqb, leb}
+use lib.ListN.{length}
+use Rattle.rules.specs.Choice.{pick}
+use Rattle.rules.specs.Fields.{allDigits, fieldOf}
+use Rattle.rules.specs.declared.Frame.{Frame}
+use Rattle.rules.specs.declared.Frame.the-variants.{Bad, Lot, Card, Critical, Range, Result, End}
+
+-- a frame where the line has n digits, else a bad line
+abbrev pub sized : List ℕ → ℕ → Frame → Frame
+sized d n f = pick (eqb (length d) n) f Bad
+
+-- 01 lot: attribute (2), containers (4)
+unfoldable pub lotFrame : List ℕ → Frame
+lotFrame d = sized d 8 (Lot (fieldOf d 2 2) (fieldOf d 4 4))
+
+-- 02 card: F (2), G (2), n (4)
+unfoldable pub cardFrame : List ℕ → Frame
+cardFrame d = sized d 10 (Card (fieldOf d 2 2) (fieldOf d 4 2) (fieldOf d 6 4))
+
+-- 03 critical: N (2), critical H in hundredths (4)
+unfoldable pub criticalFrame : List ℕ → Frame
+criticalFrame d = sized d 8 (Critical (fieldOf d 2 2) (fieldOf d 4 4))
+
+-- 04 range: lowest N (2), highest N (2), mean bound (4), tolerated R (4)
+unfoldable pub rangeFrame : List ℕ → Frame
+rangeFrame d = sized d 14 (Range (fieldOf d 2 2) (fieldOf d 4 2) (fieldOf d 6 4) (fieldOf d 10 4))
+
+-- 05 result: container (4), X (4)
+unfoldable pub resultFrame : List ℕ → Frame
+resultFrame d = sized d 10 (Result (fieldOf d 2 4) (fieldOf d 6 4))
+
+-- 06 end: number of 05 frames (2)
+unfoldable pub endFrame : List ℕ → Frame
+endFrame d = sized d 4 (End (fieldOf d 2 2))
+
+-- by the kind k
+unfoldable pub kindFrame : ℕ → List ℕ → Frame
+kindFrame k d =
+    pick (eqb k 1) (lotFrame d)
+    (pick (eqb k 2) (cardFrame d)
+    (pick (eqb k 3) (criticalFrame d)
+    (pick (eqb k 4) (rangeFrame d)
+    (pick (eqb k 5) (resultFrame d)
+    (pick (eqb k 6) (endFrame d) Bad)))))
+
+-- a line of digits alone, the first two of which are the kind
+unfoldable pub frameOf : List ℕ → Frame
+frameOf d = pick (allDigits d && leb 2 (length d)) (kindFrame (fieldOf d 0 2) d) Bad
