@@ -1,1 +1,9 @@
 pub mod Marked
+pub mod Tests
+pub mod PlaceLaws
+pub mod CardLaws
+pub mod RoundingLaws
+pub mod TextLaws
+pub mod SpreadLaws
+pub mod LineLaws
+pub mod FieldLaws
