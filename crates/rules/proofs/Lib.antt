@@ -1,9 +1,10 @@
-pub mod Marked
 pub mod Tests
 pub mod PlaceLaws
 pub mod CardLaws
+pub mod Marked
 pub mod RoundingLaws
 pub mod TextLaws
 pub mod SpreadLaws
 pub mod LineLaws
 pub mod FieldLaws
+pub mod Bounds
