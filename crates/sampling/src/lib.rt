@@ -1,0 +1,106 @@
+// The number of primary samples (000, 2.5.1.2). What is right is said in rules' specs/Sampling.antt.
+ghost use mathlib.Core.Path.{_≡_};
+ghost use Prim.Native.Nat.{_+_, _-_, _*_, _≤_, _<_, _^_, max};
+ghost use Rattle.rules.specs.Numbers.{samplesAnswer};
+ghost use Rattle.rules.specs.Limits.{widest};
+ghost use Rattle.rules.specs.Sampling.{samplingOf, begunParts, table2A, table2B, unitsOf, raised};
+use rules::Samples;
+
+// The most containers, and the most kilograms in each.
+const WIDEST: u32 = 65535;
+
+// Containers below this weight in kg are taken together, in units of up to 100 kg.
+const SMALL: u32 = 15;
+
+const UNIT: u32 = 100;
+
+// How many parts n is divided into, a begun one counted.
+fn begun_parts(n: u32, part: u32) -> u32
+    requires { ⌜ (0 < part) × (n + (part - 1) < 2 ^ 32) ⌝ }
+    ensures { λ r. ⌜ r ≡ begunParts n part ⌝ }
+{
+    (n + (part - 1)) / part
+}
+
+fn at_least(fewest: u32, n: u32) -> u32
+    ensures { λ r. ⌜ r ≡ max fewest n ⌝ }
+{
+    if fewest < n { n } else { fewest }
+}
+
+// Table 2A: containers up to 100 kg.
+fn table_2a(containers: u32) -> u32
+    ensures { λ r. ⌜ r ≡ table2A containers ⌝ }
+{
+    match containers {
+        0..=4 => 3 * containers,
+        5..=8 => 2 * containers,
+        9..=15 => containers,
+        16..=30 => 15,
+        31..=59 => 20,
+        _ => 30,
+    }
+}
+
+// Table 2B: containers above 100 kg, by the weight of the lot in kg. The largest lot, 65535 containers of 65535 kg, has 6135481.
+fn table_2b(weight: u32) -> u32
+    requires { ⌜ weight ≤ widest * widest ⌝ }
+    ensures { λ r. ⌜ (r ≡ table2B weight) × (r ≤ 6135481) ⌝ }
+{
+    if weight <= 500 {
+        return 5;
+    }
+    if weight <= 3000 {
+        return at_least(5, begun_parts(weight, 300));
+    }
+    if weight <= 20000 {
+        return at_least(10, begun_parts(weight, 500));
+    }
+    at_least(40, begun_parts(weight, 700))
+}
+
+// Small containers count in units of as many as stay within 100 kg.
+fn units(containers: u32, kilograms: u32) -> u32
+    requires { ⌜ (containers ≤ widest) × ((0 < kilograms) × (kilograms ≤ 100)) ⌝ }
+    ensures { λ r. ⌜ r ≡ unitsOf containers kilograms ⌝ }
+{
+    begun_parts(containers, UNIT / kilograms)
+}
+
+// Up to 15 containers give the same number of samples each: raised to the next multiple, unless it is one already.
+fn evenly(containers: u32, samples: u32) -> u32
+    requires { ⌜ (0 < containers) × (samples ≤ 6135481) ⌝ }
+    ensures { λ r. ⌜ r ≡ raised containers samples ⌝ }
+{
+    if containers <= 15 {
+        begun_parts(samples, containers) * containers
+    } else {
+        samples
+    }
+}
+
+// The number of primary samples for so many containers of so many whole kg each.
+pub fn primary_samples(containers: u32, kilograms: u32) -> Samples
+    ensures { λ r. ⌜ samplesAnswer r ≡ samplingOf containers kilograms ⌝ }
+{
+    if containers == 0 {
+        return Samples::OutsideTable;
+    }
+    if WIDEST < containers {
+        return Samples::OutsideTable;
+    }
+    if kilograms == 0 {
+        return Samples::OutsideTable;
+    }
+    if WIDEST < kilograms {
+        return Samples::OutsideTable;
+    }
+    if kilograms < SMALL {
+        return Samples::Number(table_2a(units(containers, kilograms)));
+    }
+    if kilograms <= UNIT {
+        return Samples::Number(table_2a(containers));
+    }
+    // Neither number is above 65535, so that the weight fits 32 bits.
+    Samples::Number(evenly(containers, table_2b(containers * kilograms)))
+}
