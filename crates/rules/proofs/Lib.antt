@@ -1,6 +1,7 @@
 pub mod Tests
 pub mod PlaceLaws
 pub mod CardLaws
+pub mod LedgerLaws
 pub mod Marked
 pub mod RoundingLaws
 pub mod TextLaws

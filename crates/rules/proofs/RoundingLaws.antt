@@ -87,9 +87,18 @@ pub record Split (a b whole rest : ℕ) : Type 0 where
   pub sum : whole * b + rest ≡ a
   pub small : rest < b
 
--- m·a / b, with no number on the way that is larger than m·b or than the whole itself
-pub split-is : (m a b : ℕ) → 0 < b → Split (m * a) b (m * (a / b) + m * (a % b) / b) (m * (a % b) % b)
-split-is m a b pos =
+-- the two are a / b and a % b
+pub split-of : (a b : ℕ) → 0 < b → Split a b (a / b) (a % b)
+split-of a b pos = record { sum = div-add-mod' a b; small = mod-lt a pos }
+
+pub split-is : (a b w r : ℕ) → Split a b w r → (w ≡ a / b) × (r ≡ a % b)
+split-is a b w r s =
+    let e : a / b ≡ w = div-eq-of-lt-le b (omega (arith, s .sum)) (omega (arith, s .sum, s .small)) in
+    (sym e, omega (arith, div-add-mod' a b, s .sum, ap (λ (x : ℕ). x * b) e))
+
+-- m·a / b from a / b, with no number on the way that is larger than m·b or than the whole itself
+pub split-scaled : (m a b : ℕ) → 0 < b → Split (m * a) b (m * (a / b) + m * (a % b) / b) (m * (a % b) % b)
+split-scaled m a b pos =
     record {
       sum = omega (arith, ap (λ (x : ℕ). m * x) (div-add-mod' a b), div-add-mod' (m * (a % b)) b);
       small = mod-lt (m * (a % b)) pos;
