@@ -1,0 +1,7 @@
+pub mod Balance
+pub mod Together
+pub mod EndlessLaws
+pub mod Printed
+pub mod Reporting
+pub mod Theorem
+pub mod Cases

@@ -1,0 +1,66 @@
+-- Lists of the calls open, enter, withdraw and join, and the ledger that is kept of them on paper. Nothing here knows the
+-- program's tally.
+use Prim.Native.Nat.{ℕ, _+_}
+use mathlib.Core.List.{List, [], _∷_}
+use lib.Dec.{eqb}
+use Rattle.rules.specs.Choice.{pick}
+use Rattle.rules.specs.declared.Lot.{Lot}
+use Rattle.rules.specs.declared.Card.{Card}
+use Rattle.rules.specs.Ledger.{Ledger, Judged, freshLedger, held, openOn, enterOn, withdrawOn, joinOn}
+
+-- a list of calls, the last one outermost; a join has the list of the calls that made the other tally
+pub data Calls : Type 0 where
+  start : Calls
+  opens : Calls → Lot → Card → Calls
+  enters : Calls → ℕ → ℕ → Calls
+  withdraws : Calls → ℕ → Calls
+  joins : Calls → Calls → Calls
+
+-- what the last call is answered, and the ledger after it
+unfoldable pub judge : Calls → Judged
+judge start = record { number = 0; ledger = freshLedger }
+judge (opens cs l c) = openOn (judge cs .ledger) l c
+judge (enters cs k x) = enterOn (judge cs .ledger) k x
+judge (withdraws cs k) = withdrawOn (judge cs .ledger) k
+judge (joins cs ds) = joinOn (judge cs .ledger) (judge ds .ledger)
+
+abbrev pub ledger : Calls → Ledger
+ledger cs = judge cs .ledger
+
+-- the answers to all the calls, the last one first
+unfoldable pub answers : Calls → List ℕ
+answers start = []
+answers (opens cs l c) = judge (opens cs l c) .number ∷ answers cs
+answers (enters cs k x) = judge (enters cs k x) .number ∷ answers cs
+answers (withdraws cs k) = judge (withdraws cs k) .number ∷ answers cs
+answers (joins cs ds) = judge (joins cs ds) .number ∷ answers cs
+
+-- Counted since the last accepted open, or from the start where there is none: accepted enters, accepted withdraws, and the
+-- results added by accepted joins.
+pub record Counts : Type 0 where
+  pub entered : ℕ
+  pub withdrawn : ℕ
+  pub joined : ℕ
+
+abbrev pub noCounts : Counts
+noCounts = record { entered = 0; withdrawn = 0; joined = 0 }
+
+-- a call counts where it is accepted
+abbrev pub ifAccepted : ℕ → Counts → Counts → Counts
+ifAccepted n after before = pick (eqb n 0) after before
+
+unfoldable pub counts : Calls → Counts
+counts start = noCounts
+counts (opens cs l c) = ifAccepted (judge (opens cs l c) .number) noCounts (counts cs)
+counts (enters cs k x) =
+    ifAccepted (judge (enters cs k x) .number)
+    (record { entered = counts cs .entered + 1; withdrawn = counts cs .withdrawn; joined = counts cs .joined })
+    (counts cs)
+counts (withdraws cs k) =
+    ifAccepted (judge (withdraws cs k) .number)
+    (record { entered = counts cs .entered; withdrawn = counts cs .withdrawn + 1; joined = counts cs .joined })
+    (counts cs)
+counts (joins cs ds) =
+    ifAccepted (judge (joins cs ds) .number)
+    (record { entered = counts cs .entered; withdrawn = counts cs .withdrawn; joined = counts cs .joined + held (ledger ds) })
+    (counts cs)

@@ -1,0 +1,35 @@
+-- The steps of a run: what the functions' own contracts, as the check reads them, say of a call.
+use Prim.Native.Nat.{ℕ}
+use mathlib.Core.List.{List}
+use base.Fml.{Lft}
+use denote.Ref.{RefT}
+use Rattle.rules.specs.declared.Lot.{Lot}
+use Rattle.rules.specs.declared.Card.{Card}
+use Rattle.rules.specs.declared.Reported.{Reported}
+use Rattle.tally.specs.declared.Tally.{Tally}
+use Rattle.tally.specs.declared.Outcome.{Outcome}
+use Rattle.tally.proofs.«open».Reads as open-reads
+use Rattle.tally.proofs.fresh.Reads as fresh-reads
+use Rattle.tally.proofs.enter.Reads as enter-reads
+use Rattle.tally.proofs.withdraw.Reads as withdraw-reads
+use Rattle.tally.proofs.join.Reads as join-reads
+use Rattle.report.proofs.report.Reads as report-reads
+
+abbrev pub FreshStep : Tally → Type 0
+FreshStep t = fresh-reads.Learnt tt tt t tt
+
+abbrev pub OpenStep : Tally → Lot → Card → Outcome → Type 0
+OpenStep t l c r = open-reads.Learnt tt (t, (l, (c, tt))) r (t, (l, (c, tt)))
+
+abbrev pub EnterStep : Tally → ℕ → ℕ → Outcome → Type 0
+EnterStep t k x r = enter-reads.Learnt tt (t, (k, (x, tt))) r (t, (k, (x, tt)))
+
+abbrev pub WithdrawStep : Tally → ℕ → Outcome → Type 0
+WithdrawStep t k r = withdraw-reads.Learnt tt (t, (k, tt)) r (t, (k, tt))
+
+abbrev pub JoinStep : Tally → Tally → Outcome → Type 0
+JoinStep t o r = join-reads.Learnt tt (t, (o, tt)) r (t, (o, tt))
+
+-- a report of t into the buffer that has `before`, and `after` as the call returns
+abbrev pub ReportStep : Lft → Tally → RefT (List ℕ) → Reported → RefT (List ℕ) → Type 0
+ReportStep κ t before r after = report-reads.Learnt (κ, tt) (t, (before, tt)) r (t, (after, tt))

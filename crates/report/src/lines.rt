@@ -1,0 +1,132 @@
+// The five lines. Each writer of a line gets the rest of the buffer, behind the lines already laid down.
+ghost use mathlib.Core.Path.{_≡_};
+ghost use Prim.Native.Nat.{_+_, _≤_};
+ghost use lib.ListN.{length};
+ghost use Rattle.rules.specs.Choice.{pick};
+ghost use Rattle.rules.specs.Text.{text, pointed};
+ghost use Rattle.rules.specs.Report.{countLine, meanLine, verdictWord, limitText};
+ghost use Rattle.decimal.specs.Laying.{Laying, Lining};
+ghost use Rattle.report.specs.Said.{limitOf, verdictOf, together as Said·together, lotText, lineOf, verdictLine, saidText};
+use crate::values::Limit;
+use crate::values::Value;
+use crate::values::Verdict;
+
+// What the lines say: N, the mean with its decimal places, and H and R, which a void lot has not.
+pub struct Said {
+    pub count: u16,
+    pub places: u8,
+    pub mean: u64,
+    pub void: bool,
+    pub h: Value,
+    pub r: Value,
+}
+
+// over, kept or open, from at on.
+fn verdict_word(buf: &mut [u8], at: usize, w: Verdict) -> usize
+    ensures { λ r. ⌜ Laying (verdictWord (verdictOf w)) at (now (buf .entry)) (now (buf .exit)) r ⌝ }
+{
+    match w {
+        Verdict::Kept => decimal::bytes(buf, at, b"kept"),
+        Verdict::Over => decimal::bytes(buf, at, b"over"),
+        Verdict::Undecided => decimal::bytes(buf, at, b"open"),
+    }
+}
+
+// A limit with its places, or the word none, from at on.
+fn limit_text(buf: &mut [u8], at: usize, places: u8, l: Limit) -> usize
+    ensures { λ r. ⌜ Laying (limitText places (limitOf l)) at (now (buf .entry)) (now (buf .exit)) r ⌝ }
+{
+    match l {
+        Limit::Absent => decimal::bytes(buf, at, b"none"),
+        Limit::At(v) => decimal::pointed(buf, at, places, v as u64),
+    }
+}
+
+// The lot's verdict from those of H and R: over if either is, else undecided if either is, else kept.
+pub fn together(h: Verdict, r: Verdict) -> Verdict
+    ensures { λ v. ⌜ verdictOf v ≡ Said·together (verdictOf h) (verdictOf r) ⌝ }
+{
+    match h {
+        Verdict::Over => Verdict::Over,
+        Verdict::Kept => r,
+        Verdict::Undecided => match r {
+            Verdict::Over => Verdict::Over,
+            Verdict::Kept => Verdict::Undecided,
+            Verdict::Undecided => Verdict::Undecided,
+        },
+    }
+}
+
+// heterogeneous, open or even, from at on.
+fn lot_word(buf: &mut [u8], at: usize, v: Verdict) -> usize
+    ensures { λ r. ⌜ Laying (lotText (verdictOf v)) at (now (buf .entry)) (now (buf .exit)) r ⌝ }
+{
+    match v {
+        Verdict::Kept => decimal::bytes(buf, at, b"even"),
+        Verdict::Over => decimal::bytes(buf, at, b"heterogeneous"),
+        Verdict::Undecided => decimal::bytes(buf, at, b"open"),
+    }
+}
+
+// N 5
+fn count_line(buf: &mut [u8], n: u16) -> usize
+    ensures { λ r. ⌜ Lining (countLine n) (now (buf .entry)) (now (buf .exit)) r ⌝ }
+{
+    let a = decimal::bytes(buf, 0, b"N ");
+    let b = decimal::number(buf, a, n as u64);
+    decimal::bytes(buf, b, b"\n")
+}
+
+// MEAN 98.00
+fn mean_line(buf: &mut [u8], places: u8, mean: u64) -> usize
+    ensures { λ r. ⌜ Lining (meanLine places mean) (now (buf .entry)) (now (buf .exit)) r ⌝ }
+{
+    let a = decimal::bytes(buf, 0, b"MEAN ");
+    let b = decimal::pointed(buf, a, places, mean);
+    decimal::bytes(buf, b, b"\n")
+}
+
+// H 1.55 1.55 over, or H void; R likewise.
+fn value_line(buf: &mut [u8], name: &[u8], void: bool, v: Value) -> usize
+    ensures { λ r. ⌜ Lining (lineOf (now (name .entry)) void v) (now (buf .entry)) (now (buf .exit)) r ⌝ }
+{
+    let a = decimal::bytes(buf, 0, name);
+    if void {
+        return decimal::bytes(buf, a, b"void\n");
+    }
+    let limit = v.limit;
+    let verdict = v.verdict;
+    let b = decimal::pointed(buf, a, v.places, v.value);
+    let c = decimal::bytes(buf, b, b" ");
+    let d = limit_text(buf, c, v.places, limit);
+    let e = decimal::bytes(buf, d, b" ");
+    let f = verdict_word(buf, e, verdict);
+    decimal::bytes(buf, f, b"\n")
+}
+
+// LOT heterogeneous
+fn lot_line(buf: &mut [u8], void: bool, h: Verdict, r: Verdict) -> usize
+    ensures { λ n. ⌜ Lining (verdictLine void (verdictOf h) (verdictOf r)) (now (buf .entry)) (now (buf .exit)) n ⌝ }
+{
+    let a = decimal::bytes(buf, 0, b"LOT ");
+    if void {
+        return decimal::bytes(buf, a, b"void\n");
+    }
+    let b = lot_word(buf, a, together(h, r));
+    decimal::bytes(buf, b, b"\n")
+}
+
+// The five lines, each in the rest of the buffer; the length of all.
+pub fn five_lines(buf: &mut [u8], s: Said) -> usize
+    ensures { λ r. ⌜ Lining (saidText s) (now (buf .entry)) (now (buf .exit)) r ⌝ }
+{
+    let h = s.h;
+    let r = s.r;
+    let by_h = h.verdict;
+    let by_r = r.verdict;
+    let a = count_line(buf, s.count);
+    let b = a + mean_line(&mut buf[a..], s.places, s.mean);
+    let c = b + value_line(&mut buf[b..], b"H ", s.void, h);
+    let d = c + value_line(&mut buf[c..], b"R ", s.void, r);
+    d + lot_line(&mut buf[d..], s.void, by_h, by_r)
+}
