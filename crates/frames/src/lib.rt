@@ -1,0 +1,189 @@
+// A sheet's lines, a line's fields of hexadecimal digits, and the frame that a line is.
+ghost use mathlib.Core.Path.{_≡_};
+ghost use Prim.Native.Nat.{_+_, _≤_};
+ghost use lib.ListN.{length, drop};
+ghost use Rattle.rules.specs.Lines.{span};
+ghost use Rattle.rules.specs.Fields.{isDigit, allDigits, valueOf, fieldOf};
+ghost use Rattle.rules.specs.Frames.{lotFrame, cardFrame, criticalFrame, rangeFrame, resultFrame, endFrame, kindFrame, frameOf};
+ghost use Rattle.frames.specs.Cutting.{CutAt};
+use rules::Frame;
+use rules::checks;
+
+// Where the line that starts at `at` ends: at its end byte, or at the sheet's end.
+fn line_end(sheet: &[u8], at: usize) -> usize
+    requires { ⌜ at ≤ length (now sheet) ⌝ }
+    ensures { λ r. ⌜ (r ≡ at + span (drop at (now (sheet .entry)))) × (r ≤ length (now (sheet .entry))) ⌝ }
+{
+    let mut i = at;
+    while i < sheet.len() {
+        if sheet[i] == b'\n' {
+            return i;
+        }
+        i += 1;
+    }
+    i
+}
+
+// The line that starts at `at`, without its end byte: a part of the sheet. Whether an end byte follows it, or the sheet's
+// end, the caller sees by its length.
+pub fn cut(sheet: &[u8], at: usize) -> &[u8]
+    ensures { λ r. ⌜ CutAt (sheet .entry) at r ⌝ }
+{
+    let start = checks::least(at, sheet.len());
+    let end = line_end(sheet, start);
+    &sheet[start..end]
+}
+
+fn is_digit(c: u8) -> bool
+    ensures { λ r. ⌜ r ≡ isDigit c ⌝ }
+{
+    ((b'0' <= c) & (c <= b'9')) | ((b'A' <= c) & (c <= b'F'))
+}
+
+fn all_digits(line: &[u8]) -> bool
+    ensures { λ r. ⌜ r ≡ allDigits (now (line .entry)) ⌝ }
+{
+    let mut i = 0;
+    while i < line.len() {
+        if !is_digit(line[i]) {
+            return false;
+        }
+        i += 1;
+    }
+    true
+}
+
+// A digit's value; 0 for another byte.
+fn digit_value(c: u8) -> u16
+    ensures { λ r. ⌜ r ≡ valueOf c ⌝ }
+{
+    if c < b'0' {
+        return 0;
+    }
+    if c <= b'9' {
+        return (c - b'0') as u16;
+    }
+    if c < b'A' {
+        return 0;
+    }
+    if c <= b'F' {
+        return (c - b'A' + 10) as u16;
+    }
+    0
+}
+
+// The field of `count` digits from `from` on.
+fn field(line: &[u8], from: usize, count: usize) -> u16
+    requires { ⌜ (from + count ≤ length (now line)) × (count ≤ 4) ⌝ }
+    ensures { λ r. ⌜ r ≡ fieldOf (now (line .entry)) from count ⌝ }
+{
+    let mut v: u16 = 0;
+    let mut i = 0;
+    while i < count {
+        v = v * 16 + digit_value(line[from + i]);
+        i += 1;
+    }
+    v
+}
+
+fn lot_frame(line: &[u8]) -> Frame
+    ensures { λ r. ⌜ r ≡ lotFrame (now (line .entry)) ⌝ }
+{
+    if line.len() == 8 {
+        return Frame::Lot {
+            attribute: field(line, 2, 2),
+            containers: field(line, 4, 4),
+        };
+    }
+    Frame::Bad
+}
+
+fn card_frame(line: &[u8]) -> Frame
+    ensures { λ r. ⌜ r ≡ cardFrame (now (line .entry)) ⌝ }
+{
+    if line.len() == 10 {
+        return Frame::Card {
+            factor: field(line, 2, 2),
+            offset: field(line, 4, 2),
+            seeds: field(line, 6, 4),
+        };
+    }
+    Frame::Bad
+}
+
+fn critical_frame(line: &[u8]) -> Frame
+    ensures { λ r. ⌜ r ≡ criticalFrame (now (line .entry)) ⌝ }
+{
+    if line.len() == 8 {
+        return Frame::Critical {
+            count: field(line, 2, 2),
+            value: field(line, 4, 4),
+        };
+    }
+    Frame::Bad
+}
+
+fn range_frame(line: &[u8]) -> Frame
+    ensures { λ r. ⌜ r ≡ rangeFrame (now (line .entry)) ⌝ }
+{
+    if line.len() == 14 {
+        return Frame::Range {
+            lowest: field(line, 2, 2),
+            highest: field(line, 4, 2),
+            bound: field(line, 6, 4),
+            tolerated: field(line, 10, 4),
+        };
+    }
+    Frame::Bad
+}
+
+fn result_frame(line: &[u8]) -> Frame
+    ensures { λ r. ⌜ r ≡ resultFrame (now (line .entry)) ⌝ }
+{
+    if line.len() == 10 {
+        return Frame::Result {
+            container: field(line, 2, 4),
+            x: field(line, 6, 4),
+        };
+    }
+    Frame::Bad
+}
+
+fn end_frame(line: &[u8]) -> Frame
+    ensures { λ r. ⌜ r ≡ endFrame (now (line .entry)) ⌝ }
+{
+    if line.len() == 4 {
+        return Frame::End {
+            count: field(line, 2, 2),
+        };
+    }
+    Frame::Bad
+}
+
+// The frame of a line of digits, by its kind.
+fn kind_frame(kind: u16, line: &[u8]) -> Frame
+    ensures { λ r. ⌜ r ≡ kindFrame kind (now (line .entry)) ⌝ }
+{
+    match kind {
+        1 => lot_frame(line),
+        2 => card_frame(line),
+        3 => critical_frame(line),
+        4 => range_frame(line),
+        5 => result_frame(line),
+        6 => end_frame(line),
+        _ => Frame::Bad,
+    }
+}
+
+// What a line says.
+pub fn frame_of(line: &[u8]) -> Frame
+    ensures { λ r. ⌜ r ≡ frameOf (now (line .entry)) ⌝ }
+{
+    if !all_digits(line) {
+        return Frame::Bad;
+    }
+    if line.len() < 2 {
+        return Frame::Bad;
+    }
+    kind_frame(field(line, 0, 2), line)
+}
