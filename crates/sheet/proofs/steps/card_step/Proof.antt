@@ -1,0 +1,31 @@
+-- `sheet::steps::card_step` meets its contract.
+use mathlib.Core.Path.{refl, sym, _∙_}
+use borrow.Author.Tests.{eq-eqb, ne-eqb, eqb-false}
+use native.Mathlib.Omega.{arith}
+use Rattle.rules.specs.Reading.{cardStep}
+use Rattle.sheet.proofs.Taking.{stopped, went}
+use borrow.Author.Needs.{needs}
+use Rattle.sheet.proofs.steps.card_step.Statement.{statement}
+use Rattle.sheet.proofs.steps.card_step.Tie as tie
+use Rattle.rules.proofs.cards.head_good.Reads as head-good-reads
+
+returns : tie.Need-returns
+unfolding cardStep
+returns c =
+    simp (ne-eqb _ _ (c .if1 .taken)) (stopped _ _ 2 (c .before .before .pre) refl (eqb-false 2 0 refl))
+
+head-good-requires : tie.Need-head-good-requires
+head-good-requires c κs = search needs
+
+returns-2 : tie.Need-returns-2
+unfolding cardStep
+returns-2 c =
+    simp (eq-eqb _ _ (c .before .before .before .before .if1 .left), sym (c .before .before .head-good .ensures) ∙ c .before .if2 .taken) (went _ _ _ (c .before .before .before .before .before .before .pre) (omega (arith, c .before .before .before .before .if1 .left)) refl refl)
+
+returns-3 : tie.Need-returns-3
+unfolding cardStep
+returns-3 c =
+    simp (eq-eqb _ _ (c .before .before .before .if1 .left), sym (c .before .head-good .ensures) ∙ c .if2 .left) (stopped _ _ 4 (c .before .before .before .before .before .pre) refl (eqb-false 4 0 refl))
+
+pub card-step-spec : {M : Type 1} → statement M
+card-step-spec = tie.close (tie.spec returns head-good-requires returns-2 returns-3)
