@@ -1,0 +1,29 @@
+-- `lottolerance::said_of` meets its contract. Assumes nothing.
+use mathlib.Core.Path.{sym, ap}
+use borrow.Author.Needs.{needs}
+use Rattle.rules.specs.declared.Tolerance.{Tolerance}
+use Rattle.rules.specs.Numbers.{toleranceAnswer}
+use Rattle.bench.specs.Saying.{saidOf}
+use Rattle.lottolerance.proofs.said_of.Statement.{statement}
+use Rattle.lottolerance.proofs.said_of.Tie as tie
+
+enum-told : tie.Need-enum-told
+enum-told c = search needs
+
+enum-told-2 : tie.Need-enum-told-2
+enum-told-2 c = search needs
+
+enum-told-3 : tie.Need-enum-told-3
+enum-told-3 c = search needs
+
+returns : tie.Need-returns
+returns c = sym (ap (λ (t : Tolerance). saidOf (toleranceAnswer t)) (c .enum-told .given .1))
+
+returns-2 : tie.Need-returns-2
+returns-2 c = sym (ap (λ (t : Tolerance). saidOf (toleranceAnswer t)) (c .enum-told2 .given .1))
+
+returns-3 : tie.Need-returns-3
+returns-3 c = sym (ap (λ (t : Tolerance). saidOf (toleranceAnswer t)) (c .enum-told3 .given .1))
+
+pub said-of-spec : {M : Type 1} → statement M
+said-of-spec = tie.close (tie.spec enum-told enum-told-2 enum-told-3 returns returns-2 returns-3)
