@@ -1,0 +1,59 @@
+/* Calls each function of gelvorin.h and prints what it answers. */
+#include <inttypes.h>
+#include <stdio.h>
+#include <string.h>
+
+#include "gelvorin.h"
+
+static void print(const char *call, uint64_t answer)
+{
+    if (answer < GELVORIN_REFUSED)
+        printf("%s: %" PRIu64 "\n", call, answer);
+    else
+        printf("%s: refused with %" PRIu64 "\n", call, answer - GELVORIN_REFUSED);
+}
+
+/* A sheet whose results do not stand in the order of their containers. */
+static const char sheet[] = "01000028\n"
+                            "020A0A03E8\n"
+                            "0305009B\n"
+                            "040509264800C8\n"
+                            "0500282648\n"
+                            "0500032648\n"
+                            "05000C26AC\n"
+                            "05000825E4\n"
+                            "0500112648\n"
+                            "0605\n";
+
+/* Calls with a buffer of so many bytes, and prints the text where there is one. */
+static void print_text(const char *call, uint64_t (*function)(const uint8_t *, size_t, uint8_t *, size_t), size_t length, size_t size)
+{
+    uint8_t buffer[4096];
+    uint64_t answer = function((const uint8_t *)sheet, length, buffer, size);
+
+    print(call, answer);
+    if (answer < GELVORIN_REFUSED)
+        fwrite(buffer, 1, answer, stdout);
+}
+
+int main(void)
+{
+    const uint32_t results[] = {9800, 9700, 9900};
+    const size_t length = strlen(sheet);
+
+    print("samples of 20 containers of 1001 kg", gelvorin_samples(20, 1001));
+    print("samples of no container", gelvorin_samples(0, 50));
+    print("label 4, found 7", gelvorin_label(4, 7));
+    print("label 4, found 9", gelvorin_label(4, 9));
+    print("label 101", gelvorin_label(101, 0));
+    print("tests of 4 and 10", gelvorin_pair(4, 10));
+    print("tests of 0 and 6", gelvorin_pair(0, 6));
+    print("tests of 502 and 502", gelvorin_pair(502, 502));
+    print("mixing within 2.00", gelvorin_mixing(results, 3, 200));
+    print("mixing within 1.99", gelvorin_mixing(results, 3, 199));
+    print("mixing of one lot", gelvorin_mixing(results, 1, 200));
+    print_text("the sheet written back", gelvorin_rewrite, length, 4096);
+    print_text("the sheet written back into 40 bytes", gelvorin_rewrite, length, 40);
+    print_text("the first 40 bytes of the sheet", gelvorin_rewrite, 40, 4096);
+    return 0;
+}

@@ -1,0 +1,88 @@
+//! Calls each function of gelvorin.h and prints what it answers.
+
+extern "C" {
+    fn gelvorin_samples(containers: u32, kilograms: u32) -> u64;
+    fn gelvorin_label(labelled: u32, found: u32) -> u64;
+    fn gelvorin_pair(first: u32, second: u32) -> u64;
+    fn gelvorin_mixing(results: *const u32, count: usize, tolerated: u32) -> u64;
+    fn gelvorin_rewrite(sheet: *const u8, length: usize, buffer: *mut u8, size: usize) -> u64;
+}
+
+/// What is added to a refusal's number.
+const REFUSED: u64 = 1 << 32;
+
+fn samples(containers: u32, kilograms: u32) -> u64 {
+    // SAFETY: the call may be made with any numbers.
+    unsafe { gelvorin_samples(containers, kilograms) }
+}
+
+fn label(labelled: u32, found: u32) -> u64 {
+    // SAFETY: the call may be made with any numbers.
+    unsafe { gelvorin_label(labelled, found) }
+}
+
+fn pair(first: u32, second: u32) -> u64 {
+    // SAFETY: the call may be made with any numbers.
+    unsafe { gelvorin_pair(first, second) }
+}
+
+fn mixing(results: &[u32], tolerated: u32) -> u64 {
+    // SAFETY: pointer and length are those of a slice that lives until the call returns.
+    unsafe { gelvorin_mixing(results.as_ptr(), results.len(), tolerated) }
+}
+
+fn rewrite(sheet: &[u8], buffer: &mut [u8]) -> u64 {
+    // SAFETY: pointers and lengths are those of slices that live until the call returns, and do not overlap.
+    unsafe { gelvorin_rewrite(sheet.as_ptr(), sheet.len(), buffer.as_mut_ptr(), buffer.len()) }
+}
+
+/// A sheet whose results do not stand in the order of their containers.
+const SHEET: &str = "01000028
+020A0A03E8
+0305009B
+040509264800C8
+0500282648
+0500032648
+05000C26AC
+05000825E4
+0500112648
+0605
+";
+
+fn print(call: &str, answer: u64) {
+    if answer < REFUSED {
+        println!("{call}: {answer}");
+    } else {
+        println!("{call}: refused with {}", answer - REFUSED);
+    }
+}
+
+/// Calls with a buffer of so many bytes, and prints the text where there is one.
+fn print_text(call: &str, function: fn(&[u8], &mut [u8]) -> u64, sheet: &str, size: usize) {
+    let mut buffer = vec![0; size];
+    let answer = function(sheet.as_bytes(), &mut buffer);
+
+    print(call, answer);
+    if answer < REFUSED {
+        print!("{}", String::from_utf8_lossy(&buffer[..answer as usize]));
+    }
+}
+
+fn main() {
+    let results = [9800, 9700, 9900];
+
+    print("samples of 20 containers of 1001 kg", samples(20, 1001));
+    print("samples of no container", samples(0, 50));
+    print("label 4, found 7", label(4, 7));
+    print("label 4, found 9", label(4, 9));
+    print("label 101", label(101, 0));
+    print("tests of 4 and 10", pair(4, 10));
+    print("tests of 0 and 6", pair(0, 6));
+    print("tests of 502 and 502", pair(502, 502));
+    print("mixing within 2.00", mixing(&results, 200));
+    print("mixing within 1.99", mixing(&results, 199));
+    print("mixing of one lot", mixing(&results[..1], 200));
+    print_text("the sheet written back", rewrite, SHEET, 4096);
+    print_text("the sheet written back into 40 bytes", rewrite, SHEET, 40);
+    print_text("the first 40 bytes of the sheet", rewrite, &SHEET[..40], 4096);
+}

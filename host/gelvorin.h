@@ -1,0 +1,48 @@
+/* The judging calls of Gelvorin, for a program in C. Link with target/staticlib/libhost.a, which `rt staticlib host` writes.
+ *
+ * Every call may be made with any values: it ends, and answers a value or a refusal. Each answers one number: the value, which is
+ * below GELVORIN_REFUSED, or GELVORIN_REFUSED and the number of the refusal (README.md has their table).
+ * A list is passed as a pointer to its first element, never null, and the number of its elements behind it. A list that is only
+ * read is left as it was. What a list points to is the caller's: nothing is kept once the call has returned.
+ * Each call is proved to answer what its definition under crates/ says. */
+#ifndef GELVORIN_H
+#define GELVORIN_H
+
+#include <stddef.h>
+#include <stdint.h>
+
+#ifdef __cplusplus
+extern "C" {
+#endif
+
+/* What is added to a refusal's number. */
+#define GELVORIN_REFUSED UINT64_C(4294967296)
+
+/* The number of primary samples for a number of containers of so many whole kilograms each (ISTA 2.5.1.2).
+ * Refused with 17, outside the table: either is 0 or above 65535. */
+uint64_t gelvorin_samples(uint32_t containers, uint32_t kilograms);
+
+/* Whether the number of seeds found is within the tolerance of the number on the label (AOSA Table 14G): 1 within, 0 out.
+ * Refused with 17, outside the table: labelled is above 100. */
+uint64_t gelvorin_label(uint32_t labelled, uint32_t found);
+
+/* Whether the numbers of seeds found by two tests are within the tolerance of each other (AOSA Table 14H): 1 within, 0 out.
+ * Refused with 17, outside the table: their average, rounded half up, is above 501. */
+uint64_t gelvorin_pair(uint32_t first, uint32_t second);
+
+/* Whether component lots with these results may be mixed: 1 if the largest less the smallest is at most the tolerated range, else 0.
+ * Results and range are in one unit: hundredths of a percent, or whole seeds.
+ * Refused with 17, outside the table: fewer than 2 or more than 60 results; else with 7, result too high: one is above 10000. */
+uint64_t gelvorin_mixing(const uint32_t *results, size_t count, uint32_t tolerated);
+
+/* Reads a sheet and writes it back: its frames in their order, the results in ascending container order. 2629 bytes are room
+ * for every sheet. Answers the length of what was written to the front of the buffer; the bytes behind it stay as they were.
+ * Refused with the number of the sheet's first fault (1 to 9, 14), or with 16, buffer short; then the buffer stays as it was.
+ * The sheet and the buffer must not overlap. */
+uint64_t gelvorin_rewrite(const uint8_t *sheet, size_t length, uint8_t *buffer, size_t size);
+
+#ifdef __cplusplus
+}
+#endif
+
+#endif
