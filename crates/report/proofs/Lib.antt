@@ -1,5 +1,5 @@
 pub mod Ends
 pub mod WalkedLaws
 pub mod ValueLaws
-pub mod SaidLaws
+pub mod FindingsLaws
 pub mod Reported

@@ -6,7 +6,7 @@ use mathlib.Core.Bool.{true, false, true≢false}
 use mathlib.Core.List.{List}
 use lib.ListN.{length}
 use borrow.Author.Tests.{lt-ltb, le-ltb}
-use Rattle.rules.specs.Limits.{leastReported}
+use Rattle.rules.specs.Limits.{leastReported, mostHeld}
 use Rattle.rules.specs.Attributes.{attributeOf}
 use Rattle.rules.specs.Report.{fiveLines, reportOf}
 use Rattle.rules.specs.Places.{total, one}
@@ -25,7 +25,7 @@ use Rattle.report.specs.declared.figures.Figures.{Figures}
 use Rattle.report.specs.Walked.{inOrder, asFigures, usual, Usual}
 use Rattle.report.specs.Reports.{Reports}
 use Rattle.report.proofs.WalkedLaws.{walked, figures-are, usual-of, sound-usual}
-use Rattle.report.proofs.SaidLaws.{lines-cut}
+use Rattle.report.proofs.FindingsLaws.{lines-cut}
 
 -- fewer than five results
 pub too-few : (t : Tally) (before : List ℕ) → t .held < 5 → Reports t before TooFew before
@@ -39,8 +39,8 @@ pub not-usual : (t : Tally) (f : rule.Figures) → 5 ≤ t .held → f ≡ walke
 not-usual t f h e u s = true≢false (sym (sound-usual t s (omega arith)) ∙ (ap (usual (t .card)) (sym e) ∙ u))
 
 -- ---- what was found out on the way
-pub figures-usual : (c : Card) (f : Figures) (vs : List ℕ) (n : ℕ) → asFigures f ≡ figuresOf n (inOrder vs) → 5 ≤ n → n ≤ 60 → usual c (asFigures f) ≡ true
-    → Usual c (asFigures f) × (f .count ≤ 60)
+pub figures-usual : (c : Card) (f : Figures) (vs : List ℕ) (n : ℕ) → asFigures f ≡ figuresOf n (inOrder vs) → 5 ≤ n → n ≤ mostHeld → usual c (asFigures f) ≡ true
+    → Usual c (asFigures f) × (f .count ≤ mostHeld)
 figures-usual c f vs n e lo hi u =
     let k : f .count ≡ total one n (inOrder vs) = ap (λ (g : rule.Figures). g .count) e in
     let w = usual-of c vs n lo hi (ap (usual c) (sym e) ∙ u) in
@@ -50,9 +50,9 @@ pub text-same : (a b : Attribute) (c : Card) (f g : rule.Figures) → a ≡ b �
 text-same a b c f g p q = rw (p, q) refl
 
 -- ---- the text that the ledger has
-module _ (t : Tally) (many : 5 ≤ t .held) (x : List ℕ) (said : x ≡ fiveLines (attributeOf (t .lot .attribute)) (t .card) (walked t)) where
+module _ (t : Tally) (many : 5 ≤ t .held) (x : List ℕ) (found : x ≡ fiveLines (attributeOf (t .lot .attribute)) (t .card) (walked t)) where
   text-is : Sound t → reportOf (view t) ≡ x
-  text-is s = rw (figures-are t s) (lines-cut (attributeOf (t .lot .attribute)) (t .card) (walked t) ∙ sym said)
+  text-is s = rw (figures-are t s) (lines-cut (attributeOf (t .lot .attribute)) (t .card) (walked t) ∙ sym found)
 
   pub short : (before : List ℕ) → length before < length x → Reports t before BufferShort before
   short before h =

@@ -9,7 +9,7 @@ use mathlib.Core.List.{List}
 use lib.Dec.{leb}
 use lib.ListN.{getD}
 use borrow.Author.Tests.{leb-true, le-leb}
-use Rattle.rules.specs.Limits.{highestX, mostRows}
+use Rattle.rules.specs.Limits.{highestX, mostHeld, mostRows}
 use Rattle.rules.specs.Places.{Place, free, holds, total, one, value, square, largest, smallest}
 use Rattle.rules.specs.Figures as rule
 use Rattle.rules.specs.Cards.{headGood}
@@ -106,8 +106,8 @@ figures-are t s =
     ) refl
 
 -- ---- the tests
-pub usual-of : (c : Card) (vs : List ℕ) (n : ℕ) → 5 ≤ n → n ≤ 60 → usual c (rule.figuresOf n (inOrder vs)) ≡ true
-    → Usual c (rule.figuresOf n (inOrder vs)) × (total one n (inOrder vs) ≤ 60)
+pub usual-of : (c : Card) (vs : List ℕ) (n : ℕ) → 5 ≤ n → n ≤ mostHeld → usual c (rule.figuresOf n (inOrder vs)) ≡ true
+    → Usual c (rule.figuresOf n (inOrder vs)) × (total one n (inOrder vs) ≤ mostHeld)
 usual-of c vs n lo hi e =
     let a = and-right (leb (largest n (inOrder vs)) highestX) _ e in
     let b = and-right (leb 10 (c .factor)) _ a in

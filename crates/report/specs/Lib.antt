@@ -1,3 +1,3 @@
 pub mod Walked
-pub mod Said
+pub mod Findings
 pub mod Reports

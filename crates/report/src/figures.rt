@@ -1,6 +1,7 @@
 // The figures of the held results.
 ghost use mathlib.Core.Path.{_≡_};
 ghost use Prim.Native.Nat.{_≤_, _<_, min, max};
+ghost use Rattle.rules.specs.Limits.{mostHeld};
 ghost use Rattle.rules.specs.Figures.{figuresOf};
 ghost use Rattle.report.specs.Walked.{inOrder, asFigures, Narrow, WithResult, usual};
 use rules::Card;
@@ -46,7 +47,7 @@ fn with_result(f: Figures, x: u16) -> Figures
 
 // The figures of the first n results, in one walk.
 pub fn figures_of(results: &[u16; MOST_HELD], n: usize) -> Figures
-    requires { ⌜ n ≤ 60 ⌝ }
+    requires { ⌜ n ≤ mostHeld ⌝ }
     ensures { λ r. ⌜ asFigures r ≡ figuresOf n (inOrder (now (results .entry))) ⌝ }
 {
     let mut f = Figures {

@@ -6,13 +6,13 @@ use rules::Reported;
 use tally::Tally;
 
 mod figures;
+mod findings;
 mod lines;
-mod said;
 mod sizes;
 mod values;
 
-// Too few below five results, buffer short where the text does not fit, else the text and its length. The second and third test
-// fail for no tally that the calls have made.
+// Too few below five results, buffer short where the text does not fit, else the text and its length. The tests of held and of card
+// and results pass on every tally that the calls have made; they are for a tally made in some other way.
 pub fn report(t: Tally, buf: &mut [u8]) -> Reported
     ensures { λ r. ⌜ Reports t (now (buf .entry)) r (now (buf .exit)) ⌝ }
 {
@@ -27,11 +27,11 @@ pub fn report(t: Tally, buf: &mut [u8]) -> Reported
     let f = figures::figures_of(&results, n);
     let card = t.card;
     if figures::is_usual(card, f) {
-        let said = said::said(Attribute::of(t.lot.attribute), card, f);
-        if buf.len() < sizes::size(said) {
+        let findings = findings::of_lot(Attribute::of(t.lot.attribute), card, f);
+        if buf.len() < sizes::size(findings) {
             return Reported::BufferShort;
         }
-        return Reported::Length(lines::five_lines(buf, said));
+        return Reported::Length(lines::five_lines(buf, findings));
     }
     Reported::TooFew
 }

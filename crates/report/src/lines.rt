@@ -6,20 +6,11 @@ ghost use Rattle.rules.specs.Choice.{pick};
 ghost use Rattle.rules.specs.Text.{text, pointed};
 ghost use Rattle.rules.specs.Report.{countLine, meanLine, verdictWord, limitText};
 ghost use Rattle.decimal.specs.Laying.{Laying, Lining};
-ghost use Rattle.report.specs.Said.{limitOf, verdictOf, together as Said·together, lotText, lineOf, verdictLine, saidText};
+ghost use Rattle.report.specs.Findings.{limitOf, verdictOf, together as Findings·together, lotText, lineOf, verdictLine, findingsText};
+use crate::findings::Findings;
 use crate::values::Limit;
 use crate::values::Value;
 use crate::values::Verdict;
-
-// What the lines say: N, the mean with its decimal places, and H and R, which a void lot has not.
-pub struct Said {
-    pub count: u16,
-    pub places: u8,
-    pub mean: u64,
-    pub void: bool,
-    pub h: Value,
-    pub r: Value,
-}
 
 // over, kept or open, from at on.
 fn verdict_word(buf: &mut [u8], at: usize, w: Verdict) -> usize
@@ -44,7 +35,7 @@ fn limit_text(buf: &mut [u8], at: usize, places: u8, l: Limit) -> usize
 
 // The lot's verdict from those of H and R: over if either is, else undecided if either is, else kept.
 pub fn together(h: Verdict, r: Verdict) -> Verdict
-    ensures { λ v. ⌜ verdictOf v ≡ Said·together (verdictOf h) (verdictOf r) ⌝ }
+    ensures { λ v. ⌜ verdictOf v ≡ Findings·together (verdictOf h) (verdictOf r) ⌝ }
 {
     match h {
         Verdict::Over => Verdict::Over,
@@ -112,13 +103,13 @@ fn lot_line(buf: &mut [u8], void: bool, h: Verdict, r: Verdict) -> usize
     if void {
         return decimal::bytes(buf, a, b"void\n");
     }
-    let b = lot_word(buf, a, together(h, r));
-    decimal::bytes(buf, b, b"\n")
+    let end = lot_word(buf, a, together(h, r));
+    decimal::bytes(buf, end, b"\n")
 }
 
 // The five lines, each in the rest of the buffer; the length of all.
-pub fn five_lines(buf: &mut [u8], s: Said) -> usize
-    ensures { λ r. ⌜ Lining (saidText s) (now (buf .entry)) (now (buf .exit)) r ⌝ }
+pub fn five_lines(buf: &mut [u8], s: Findings) -> usize
+    ensures { λ r. ⌜ Lining (findingsText s) (now (buf .entry)) (now (buf .exit)) r ⌝ }
 {
     let h = s.h;
     let r = s.r;

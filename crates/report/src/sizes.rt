@@ -3,9 +3,9 @@ ghost use mathlib.Core.Path.{_≡_};
 ghost use Prim.Native.Nat.{_+_, _≤_};
 ghost use lib.ListN.{length};
 ghost use Rattle.rules.specs.Report.{limitText};
-ghost use Rattle.report.specs.Said.{limitOf, verdictOf, sizeOf, verdictLine, saidText};
+ghost use Rattle.report.specs.Findings.{limitOf, verdictOf, sizeOf, verdictLine, findingsText};
+use crate::findings::Findings;
 use crate::lines;
-use crate::lines::Said;
 use crate::values::Limit;
 use crate::values::Value;
 use crate::values::Verdict;
@@ -45,8 +45,8 @@ fn lot_size(void: bool, h: Verdict, r: Verdict) -> usize
 }
 
 // All five.
-pub fn size(s: Said) -> usize
-    ensures { λ r. ⌜ r ≡ length (saidText s) ⌝ }
+pub fn size(s: Findings) -> usize
+    ensures { λ r. ⌜ r ≡ length (findingsText s) ⌝ }
 {
     let h = s.h;
     let r = s.r;

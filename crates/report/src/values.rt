@@ -5,10 +5,11 @@ ghost use Prim.Native.Nat.{_+_, _*_, _≤_, _<_};
 ghost use lib.Dec.{leb, ltb};
 ghost use lib.ListN.{getD};
 ghost use Rattle.rules.specs.Choice.{pick};
+ghost use Rattle.rules.specs.Limits.{mostHeld, mostRows};
 ghost use Rattle.rules.specs.Figures.{deviation as rule·deviation, ofPercentages, ofCounts, ratio as rule·ratio, criticalFor, rowServes, toleratedFor, orNext, verdictBy, verdictOn, none, limit};
 ghost use Rattle.decimal.specs.Dividing.{isAbove};
 ghost use Rattle.report.specs.Walked.{asFigures, asFraction, Usual};
-ghost use Rattle.report.specs.Said.{limitOf, verdictOf};
+ghost use Rattle.report.specs.Findings.{limitOf, verdictOf};
 use crate::figures::Figures;
 use decimal::Division;
 use rules::Attribute;
@@ -89,7 +90,7 @@ pub fn ratio(a: Attribute, c: Card, f: Figures) -> Fraction
 
 // The critical value for n results.
 pub fn critical_for(c: Card, n: u16) -> Limit
-    requires { ⌜ n ≤ 60 ⌝ }
+    requires { ⌜ n ≤ mostHeld ⌝ }
     ensures { λ r. ⌜ limitOf r ≡ criticalFor c n ⌝ }
 {
     let k = n as usize;
@@ -110,7 +111,7 @@ fn serves(lowest: u16, highest: u16, bound: u16, n: u16, s: u32) -> bool
 
 // The tolerated R of row k where it serves.
 fn tolerated_by(c: Card, k: usize, n: u16, s: u32) -> Limit
-    requires { ⌜ k < 96 ⌝ }
+    requires { ⌜ k < mostRows ⌝ }
     ensures { λ r. ⌜ limitOf r ≡ pick (rowServes c k n s) (limit (getD (c .tolerated) k 0)) none ⌝ }
 {
     if serves(c.lowest[k], c.highest[k], c.bound[k], n, s) {
@@ -131,7 +132,7 @@ fn or_next(l: Limit, next: Limit) -> Limit
 
 // The tolerated R of the first row, in the card's order, that serves.
 pub fn tolerated_for(c: Card, f: Figures) -> Limit
-    requires { ⌜ c .rows ≤ 96 ⌝ }
+    requires { ⌜ c .rows ≤ mostRows ⌝ }
     ensures { λ r. ⌜ limitOf r ≡ toleratedFor c (asFigures f) ⌝ }
 {
     let mut l = Limit::Absent;

@@ -21,8 +21,8 @@ is-usual-requires c κs = search needs
 of-requires : tie.Need-of-requires
 of-requires c κs = search needs
 
-said-requires : tie.Need-said-requires
-said-requires c κs =
+of-lot-requires : tie.Need-of-lot-requires
+of-lot-requires c κs =
     figures-usual _ _ _ _ (c .before .before .before .before .figures-of .ensures) (c .before .before .before .before .before .before .before .before .if1 .left) (c .before .before .before .before .before .before .before .if2 .left) (sym (c .before .before .is-usual .ensures) ∙ c .before .if3 .taken)
 
 size-requires : tie.Need-size-requires
@@ -30,7 +30,7 @@ size-requires c κs = search needs
 
 returns-3 : tie.Need-returns-3
 returns-3 c =
-    short _ (c .before .before .before .before .before .before .before .before .before .before .before .if1 .left) _ (c .before .before .said .ensures ∙ text-same _ _ _ _ _ (c .before .before .before .of .ensures) (c .before .before .before .before .before .before .before .figures-of .ensures)) _ (omega (arith, c .before .size .ensures, c .if4 .taken))
+    short _ (c .before .before .before .before .before .before .before .before .before .before .before .if1 .left) _ (c .before .before .of-lot .ensures ∙ text-same _ _ _ _ _ (c .before .before .before .of .ensures) (c .before .before .before .before .before .before .before .figures-of .ensures)) _ (omega (arith, c .before .size .ensures, c .if4 .taken))
 
 five-lines-requires : tie.Need-five-lines-requires
 five-lines-requires c κs = search needs
@@ -40,7 +40,7 @@ same-length c = search needs
 
 returns-4 : tie.Need-returns-4
 returns-4 c =
-    written _ (c .before .before .before .before .before .before .before .before .before .before .before .before .before .before .before .if1 .left) _ (c .before .before .before .before .before .before .said .ensures ∙ text-same _ _ _ _ _ (c .before .before .before .before .before .before .before .of .ensures) (c .before .before .before .before .before .before .before .before .before .before .before .figures-of .ensures)) _ _ _ (omega (arith, c .before .before .before .before .before .size .ensures, c .before .before .before .before .if4 .left)) (c .before .before .five-lines .ensures)
+    written _ (c .before .before .before .before .before .before .before .before .before .before .before .before .before .before .before .if1 .left) _ (c .before .before .before .before .before .before .of-lot .ensures ∙ text-same _ _ _ _ _ (c .before .before .before .before .before .before .before .of .ensures) (c .before .before .before .before .before .before .before .before .before .before .before .figures-of .ensures)) _ _ _ (omega (arith, c .before .before .before .before .before .size .ensures, c .before .before .before .before .if4 .left)) (c .before .before .five-lines .ensures)
 
 returns-5 : tie.Need-returns-5
 returns-5 c =
@@ -55,7 +55,7 @@ report-spec =
     figures-of-requires
     is-usual-requires
     of-requires
-    said-requires
+    of-lot-requires
     size-requires
     returns-3
     five-lines-requires

@@ -1,6 +1,6 @@
 -- `report::lines::five_lines` meets its contract: each line in the rest of the buffer behind the lines before it. Assumes nothing.
 use mathlib.Core.Path.{refl}
-use Rattle.report.specs.Said.{saidText}
+use Rattle.report.specs.Findings.{findingsText}
 use Rattle.decimal.proofs.LayingLaws.{then-line}
 use borrow.Author.Needs.{needs}
 use Rattle.report.proofs.lines.five_lines.Statement.{statement}
@@ -79,7 +79,7 @@ same-length : tie.Need-same-length
 same-length c = search needs
 
 returns : tie.Need-returns
-unfolding saidText
+unfolding findingsText
 returns c =
     then-line _ _ _ _ _ _ _ _
     (then-line _ _ _ _ _ _ _ _

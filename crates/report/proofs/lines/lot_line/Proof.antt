@@ -1,5 +1,5 @@
 -- `report::lines::lot_line` meets its contract: its pieces, one behind the other. Assumes nothing.
-use Rattle.report.specs.Said.{verdictLine}
+use Rattle.report.specs.Findings.{verdictLine}
 use Rattle.decimal.proofs.LayingLaws.{piece, then-piece, a-line}
 use borrow.Author.Needs.{needs}
 use Rattle.report.proofs.lines.lot_line.Statement.{statement}

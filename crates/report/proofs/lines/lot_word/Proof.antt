@@ -1,5 +1,5 @@
 -- `report::lines::lot_word` meets its contract. Assumes nothing.
-use Rattle.report.specs.Said.{lotText}
+use Rattle.report.specs.Findings.{lotText}
 use borrow.Author.Needs.{needs}
 use Rattle.report.proofs.lines.lot_word.Statement.{statement}
 use Rattle.report.proofs.lines.lot_word.Tie as tie

@@ -1,5 +1,5 @@
 -- `report::lines::value_line` meets its contract: its pieces, one behind the other. Assumes nothing.
-use Rattle.report.specs.Said.{valueLine}
+use Rattle.report.specs.Findings.{valueLine}
 use Rattle.decimal.proofs.LayingLaws.{piece, then-piece, a-line}
 use borrow.Author.Needs.{needs}
 use Rattle.report.proofs.lines.value_line.Statement.{statement}

@@ -1,7 +1,7 @@
 -- `report::sizes::limit_size` meets its contract. Assumes nothing.
 use mathlib.Core.Path.{sym}
 use native.Mathlib.Omega.{arith}
-use Rattle.report.proofs.SaidLaws.{length-limit-none, limit-is, width-most}
+use Rattle.report.proofs.FindingsLaws.{length-limit-none, limit-is, width-most}
 use borrow.Author.Needs.{needs}
 use Rattle.report.proofs.sizes.limit_size.Statement.{statement}
 use Rattle.report.proofs.sizes.limit_size.Tie as tie

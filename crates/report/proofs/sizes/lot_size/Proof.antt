@@ -1,8 +1,8 @@
 -- `report::sizes::lot_size` meets its contract. Assumes nothing.
 use mathlib.Core.Path.{refl, sym, ap, _∙_}
 use native.Mathlib.Omega.{arith}
-use Rattle.report.specs.Said.{verdictOf, lotText}
-use Rattle.report.proofs.SaidLaws.{length-lot-void, length-lot}
+use Rattle.report.specs.Findings.{verdictOf, lotText}
+use Rattle.report.proofs.FindingsLaws.{length-lot-void, length-lot}
 use borrow.Author.Needs.{needs}
 use Rattle.report.proofs.sizes.lot_size.Statement.{statement}
 use Rattle.report.proofs.sizes.lot_size.Tie as tie

@@ -1,7 +1,7 @@
 -- `report::sizes::size` meets its contract. Assumes nothing.
 use native.Mathlib.Omega.{arith}
 use Rattle.rules.proofs.TextLaws.{length-decimal}
-use Rattle.report.proofs.SaidLaws.{length-pointed-le, length-said}
+use Rattle.report.proofs.FindingsLaws.{length-pointed-le, length-findings}
 use borrow.Author.Needs.{needs}
 use Rattle.report.proofs.sizes.size.Statement.{statement}
 use Rattle.report.proofs.sizes.size.Tie as tie
@@ -51,7 +51,7 @@ add-result-3 c =
 returns : tie.Need-returns
 returns c =
     let s = c .before .before .before .before .before .before .before .before .args .s in
-    omega (arith, length-said s, c .before .before .before .before .width .ensures, c .before .before .before .pointed-width .ensures, c .before .before .value-size .ensures .0, c .before .value-size2 .ensures .0, c .lot-size .ensures .0)
+    omega (arith, length-findings s, c .before .before .before .before .width .ensures, c .before .before .before .pointed-width .ensures, c .before .before .value-size .ensures .0, c .before .value-size2 .ensures .0, c .lot-size .ensures .0)
 
 pub size-spec : {M : Type 1} → statement M
 size-spec =

@@ -1,8 +1,8 @@
 -- `report::sizes::value_size` meets its contract. Assumes nothing.
 use mathlib.Core.Path.{refl}
 use native.Mathlib.Omega.{arith}
-use Rattle.report.specs.Said.{valueSize}
-use Rattle.report.proofs.SaidLaws.{length-pointed-le}
+use Rattle.report.specs.Findings.{valueSize}
+use Rattle.report.proofs.FindingsLaws.{length-pointed-le}
 use borrow.Author.Needs.{needs}
 use Rattle.report.proofs.sizes.value_size.Statement.{statement}
 use Rattle.report.proofs.sizes.value_size.Tie as tie

@@ -4,7 +4,7 @@ use mathlib.Core.Path.{_≡_, refl}
 use native.Mathlib.Omega.{arith}
 use native.Mathlib.Numerals.{add-one}
 use Rattle.rules.specs.Figures.{toleratedUpto}
-use Rattle.report.specs.Said.{limitOf}
+use Rattle.report.specs.Findings.{limitOf}
 use Rattle.report.proofs.values.tolerated_for.Statement.{statement}
 use Rattle.report.proofs.values.tolerated_for.Tie as tie
 

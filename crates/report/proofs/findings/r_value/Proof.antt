@@ -1,8 +1,8 @@
--- `report::said::r_value` meets its contract. Assumes nothing.
+-- `report::findings::r_value` meets its contract. Assumes nothing.
 use mathlib.Core.Path.{refl}
 use borrow.Author.Needs.{needs}
-use Rattle.report.proofs.said.r_value.Statement.{statement}
-use Rattle.report.proofs.said.r_value.Tie as tie
+use Rattle.report.proofs.findings.r_value.Statement.{statement}
+use Rattle.report.proofs.findings.r_value.Tie as tie
 
 sub-range : tie.Need-sub-range
 sub-range c = search needs

@@ -1,20 +1,30 @@
-// What the five lines say.
+// The findings of a report: what its five lines say.
 ghost use mathlib.Core.Path.{_≡_};
 ghost use mathlib.Core.Bool.{false};
 ghost use Prim.Native.Nat.{_-_, _*_, _≤_};
+ghost use Rattle.rules.specs.Limits.{mostHeld};
 ghost use Rattle.rules.specs.Attributes.{isVoid};
 ghost use Rattle.rules.specs.Figures.{meanOf};
 ghost use Rattle.rules.specs.Report.{fiveLines};
 ghost use Rattle.report.specs.Walked.{asFigures, Usual};
-ghost use Rattle.report.specs.Said.{SaysH, SaysR, saidText};
+ghost use Rattle.report.specs.Findings.{IsH, IsR, findingsText};
 use crate::figures::Figures;
-use crate::lines::Said;
 use crate::values;
 use crate::values::Limit;
 use crate::values::Value;
 use crate::values::Verdict;
 use rules::Attribute;
 use rules::Card;
+
+// N, the mean with its decimal places, and H and R, which a void lot has not.
+pub struct Findings {
+    pub count: u16,
+    pub places: u8,
+    pub mean: u64,
+    pub void: bool,
+    pub h: Value,
+    pub r: Value,
+}
 
 // The mean in units of its last printed place, half up.
 fn mean(a: Attribute, f: Figures) -> u64
@@ -34,9 +44,9 @@ fn less(a: u64, b: u64) -> u64
 
 // H with the critical value for N.
 fn h_value(a: Attribute, c: Card, f: Figures) -> Value
-    requires { ⌜ Usual c (asFigures f) × (f .count ≤ 60) ⌝ }
+    requires { ⌜ Usual c (asFigures f) × (f .count ≤ mostHeld) ⌝ }
     requires { ⌜ isVoid a (f .count) (f .sum) ≡ false ⌝ }
-    ensures { λ r. ⌜ SaysH a c (asFigures f) r ⌝ }
+    ensures { λ r. ⌜ IsH a c (asFigures f) r ⌝ }
 {
     let q = values::ratio(a, c, f);
     let d = decimal::divide(100, q.over, q.under);
@@ -52,7 +62,7 @@ fn h_value(a: Attribute, c: Card, f: Figures) -> Value
 // R with the tolerated range of its row.
 fn r_value(a: Attribute, c: Card, f: Figures) -> Value
     requires { ⌜ Usual c (asFigures f) ⌝ }
-    ensures { λ r. ⌜ SaysR a c (asFigures f) r ⌝ }
+    ensures { λ r. ⌜ IsR a c (asFigures f) r ⌝ }
 {
     let range = f.largest - f.smallest;
     let limit = values::tolerated_for(c, f);
@@ -74,14 +84,15 @@ fn no_value() -> Value {
     }
 }
 
-pub fn said(a: Attribute, c: Card, f: Figures) -> Said
-    requires { ⌜ Usual c (asFigures f) × (f .count ≤ 60) ⌝ }
-    ensures { λ r. ⌜ saidText r ≡ fiveLines a c (asFigures f) ⌝ }
+// The findings from attribute, card and figures.
+pub fn of_lot(a: Attribute, c: Card, f: Figures) -> Findings
+    requires { ⌜ Usual c (asFigures f) × (f .count ≤ mostHeld) ⌝ }
+    ensures { λ r. ⌜ findingsText r ≡ fiveLines a c (asFigures f) ⌝ }
 {
     let places = a.mean_places(f.count) as u8;
     let mean = mean(a, f);
     if a.is_void(f.count, f.sum) {
-        return Said {
+        return Findings {
             count: f.count,
             places: places,
             mean: mean,
@@ -90,7 +101,7 @@ pub fn said(a: Attribute, c: Card, f: Figures) -> Said
             r: no_value(),
         };
     }
-    Said {
+    Findings {
         count: f.count,
         places: places,
         mean: mean,

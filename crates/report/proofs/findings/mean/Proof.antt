@@ -1,12 +1,12 @@
--- `report::said::mean` meets its contract. Assumes nothing.
+-- `report::findings::mean` meets its contract. Assumes nothing.
 use mathlib.Core.Path.{refl}
 use native.Mathlib.Nat.{div-le-self}
 use native.Mathlib.Omega.{arith}
 use Rattle.rules.specs.Figures.{meanOf}
 use Rattle.decimal.proofs.DividingLaws.{workable-of}
 use borrow.Author.Needs.{needs}
-use Rattle.report.proofs.said.mean.Statement.{statement}
-use Rattle.report.proofs.said.mean.Tie as tie
+use Rattle.report.proofs.findings.mean.Statement.{statement}
+use Rattle.report.proofs.findings.mean.Tie as tie
 
 mean-scale-requires : tie.Need-mean-scale-requires
 mean-scale-requires c κs = search needs

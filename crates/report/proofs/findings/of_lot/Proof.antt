@@ -1,9 +1,9 @@
--- `report::said::said` meets its contract. Assumes nothing.
+-- `report::findings::of_lot` meets its contract. Assumes nothing.
 use mathlib.Core.Path.{refl, sym, _∙_}
-use Rattle.report.proofs.SaidLaws.{void-said, judged-said}
+use Rattle.report.proofs.FindingsLaws.{void-findings, judged-findings}
 use borrow.Author.Needs.{needs}
-use Rattle.report.proofs.said.said.Statement.{statement}
-use Rattle.report.proofs.said.said.Tie as tie
+use Rattle.report.proofs.findings.of_lot.Statement.{statement}
+use Rattle.report.proofs.findings.of_lot.Tie as tie
 
 mean-places-requires : tie.Need-mean-places-requires
 mean-places-requires c κs = search needs
@@ -24,7 +24,7 @@ no-value-requires-2 : tie.Need-no-value-requires-2
 no-value-requires-2 c κs = search needs
 
 returns : tie.Need-returns
-returns c = void-said _ _ _ _ (sym (c .before .before .before .is-void .ensures) ∙ c .before .before .if1 .taken) refl refl (c .before .before .before .before .before .mean-places .ensures .0) (c .before .before .before .before .mean .ensures)
+returns c = void-findings _ _ _ _ (sym (c .before .before .before .is-void .ensures) ∙ c .before .before .if1 .taken) refl refl (c .before .before .before .before .before .mean-places .ensures .0) (c .before .before .before .before .mean .ensures)
 
 h-value-requires : tie.Need-h-value-requires
 h-value-requires c κs = (c .before .before .before .before .pre, sym (c .before .is-void .ensures) ∙ c .if1 .left)
@@ -33,10 +33,10 @@ r-value-requires : tie.Need-r-value-requires
 r-value-requires c κs = search needs
 
 returns-2 : tie.Need-returns-2
-returns-2 c = judged-said _ _ _ _ (sym (c .before .before .before .is-void .ensures) ∙ c .before .before .if1 .left) refl refl (c .before .before .before .before .before .mean-places .ensures .0) (c .before .before .before .before .mean .ensures) (c .before .h-value .ensures) (c .r-value .ensures)
+returns-2 c = judged-findings _ _ _ _ (sym (c .before .before .before .is-void .ensures) ∙ c .before .before .if1 .left) refl refl (c .before .before .before .before .before .mean-places .ensures .0) (c .before .before .before .before .mean .ensures) (c .before .h-value .ensures) (c .r-value .ensures)
 
-pub said-spec : {M : Type 1} → statement M
-said-spec =
+pub of-lot-spec : {M : Type 1} → statement M
+of-lot-spec =
     tie.close
     (tie.spec
     mean-places-requires

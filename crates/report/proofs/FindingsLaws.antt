@@ -17,8 +17,8 @@ use Rattle.rules.specs.declared.Attribute.{Attribute}
 use Rattle.rules.specs.declared.Attribute.the-variants.{Purity, Germination, Count}
 use Rattle.rules.specs.declared.Card.{Card}
 use Rattle.rules.proofs.TextLaws.{pointed-none, length-decimal, length-pointed}
-use Rattle.report.specs.declared.lines.Said.{Said}
-use Rattle.report.specs.Said.{limitOf, verdictOf, valueLine, valueSize, together, lotText, verdictLine, saidText, SaysH, SaysR}
+use Rattle.report.specs.declared.findings.Findings.{Findings}
+use Rattle.report.specs.Findings.{limitOf, verdictOf, valueLine, valueSize, together, lotText, verdictLine, findingsText, IsH, IsR}
 
 -- ---- how long the pieces and the lines are
 pub length-pointed-le : (k n : ℕ) → length (pointed k n) ≤ 21 + k
@@ -64,9 +64,9 @@ pub length-lot : (h r v : rule.Verdict) → v ≡ together h r → length (verdi
 unfolding verdictLine
 length-lot h r v e = rw e (simp length-append (omega arith))
 
-pub length-said : (s : Said) → length (saidText s) ≡ length (decimal (s .count)) + 3 + (length (pointed (s .places) (s .mean)) + 6) + (valueSize (s .void) (s .h .places) (s .h .value) (limitOf (s .h .limit)) + valueSize (s .void) (s .r .places) (s .r .value) (limitOf (s .r .limit))) + length (verdictLine (s .void) (verdictOf (s .h .verdict)) (verdictOf (s .r .verdict)))
-unfolding saidText
-length-said s =
+pub length-findings : (s : Findings) → length (findingsText s) ≡ length (decimal (s .count)) + 3 + (length (pointed (s .places) (s .mean)) + 6) + (valueSize (s .void) (s .h .places) (s .h .value) (limitOf (s .h .limit)) + valueSize (s .void) (s .r .places) (s .r .value) (limitOf (s .r .limit))) + length (verdictLine (s .void) (verdictOf (s .h .verdict)) (verdictOf (s .r .verdict)))
+unfolding findingsText
+length-findings s =
     simp length-append
     (omega (
       arith,
@@ -92,16 +92,16 @@ lot-judged rule.undecided rule.kept = refl
 lot-judged rule.undecided rule.undecided = refl
 
 -- a void lot
-pub void-said : (a : Attribute) (c : Card) (f : rule.Figures) (s : Said) → isVoid a (f .count) (f .sum) ≡ true → s .void ≡ true
-    → s .count ≡ f .count → s .places ≡ meanPlaces a (f .count) → s .mean ≡ rule.meanOf a f → saidText s ≡ fiveLines a c f
-unfolding saidText valueLine verdictLine fiveLines hLine rLine lotLine
-void-said a c f s e v n p m = rw (e, v, n, p, m) refl
+pub void-findings : (a : Attribute) (c : Card) (f : rule.Figures) (s : Findings) → isVoid a (f .count) (f .sum) ≡ true → s .void ≡ true
+    → s .count ≡ f .count → s .places ≡ meanPlaces a (f .count) → s .mean ≡ rule.meanOf a f → findingsText s ≡ fiveLines a c f
+unfolding findingsText valueLine verdictLine fiveLines hLine rLine lotLine
+void-findings a c f s e v n p m = rw (e, v, n, p, m) refl
 
 -- any other
-pub judged-said : (a : Attribute) (c : Card) (f : rule.Figures) (s : Said) → isVoid a (f .count) (f .sum) ≡ false → s .void ≡ false
-    → s .count ≡ f .count → s .places ≡ meanPlaces a (f .count) → s .mean ≡ rule.meanOf a f → SaysH a c f (s .h) → SaysR a c f (s .r) → saidText s ≡ fiveLines a c f
-unfolding saidText verdictLine fiveLines hLine rLine lotLine
-judged-said a c f s e v n p m h r =
+pub judged-findings : (a : Attribute) (c : Card) (f : rule.Figures) (s : Findings) → isVoid a (f .count) (f .sum) ≡ false → s .void ≡ false
+    → s .count ≡ f .count → s .places ≡ meanPlaces a (f .count) → s .mean ≡ rule.meanOf a f → IsH a c f (s .h) → IsR a c f (s .r) → findingsText s ≡ fiveLines a c f
+unfolding findingsText verdictLine fiveLines hLine rLine lotLine
+judged-findings a c f s e v n p m h r =
     rw (
       e,
       v,

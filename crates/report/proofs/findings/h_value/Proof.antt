@@ -1,9 +1,9 @@
--- `report::said::h_value` meets its contract. Assumes nothing.
+-- `report::findings::h_value` meets its contract. Assumes nothing.
 use mathlib.Core.Path.{refl, _∙_}
 use Rattle.report.proofs.ValueLaws.{h-value, h-verdict}
 use borrow.Author.Needs.{needs}
-use Rattle.report.proofs.said.h_value.Statement.{statement}
-use Rattle.report.proofs.said.h_value.Tie as tie
+use Rattle.report.proofs.findings.h_value.Statement.{statement}
+use Rattle.report.proofs.findings.h_value.Tie as tie
 
 ratio-requires : tie.Need-ratio-requires
 ratio-requires c κs = search needs

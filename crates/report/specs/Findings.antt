@@ -16,7 +16,7 @@ use Rattle.report.specs.declared.values.Limit.the-variants as limit
 use Rattle.report.specs.declared.values.Verdict.{Verdict}
 use Rattle.report.specs.declared.values.Verdict.the-variants as verdict
 use Rattle.report.specs.declared.values.Value.{Value}
-use Rattle.report.specs.declared.lines.Said.{Said}
+use Rattle.report.specs.declared.findings.Findings.{Findings}
 
 -- the code's limits and verdicts, as the rules have them
 abbrev pub limitOf : Limit → rule.Limit
@@ -63,22 +63,22 @@ abbrev pub sizeOf : Bool → Value → ℕ
 sizeOf void v = valueSize void (v .places) (v .value) (limitOf (v .limit))
 
 -- all five lines
-unfoldable pub saidText : Said → List ℕ
-saidText s =
+unfoldable pub findingsText : Findings → List ℕ
+findingsText s =
     countLine (s .count)
     ++ meanLine (s .places) (s .mean)
     ++ lineOf (text "H ") (s .void) (s .h)
     ++ lineOf (text "R ") (s .void) (s .r)
     ++ verdictLine (s .void) (verdictOf (s .h .verdict)) (verdictOf (s .r .verdict))
 
--- what H and R are, as a value that a line has
-pub record SaysH (a : Attribute) (c : Card) (f : rule.Figures) (v : Value) : Type 0 where
+-- a value is H, or R, of lot, card and figures
+pub record IsH (a : Attribute) (c : Card) (f : rule.Figures) (v : Value) : Type 0 where
   pub places : v .places ≡ 2
   pub value : v .value ≡ rule.reportedH (rule.ratio a c f) (c .offset)
   pub limit : limitOf (v .limit) ≡ rule.criticalFor c (f .count)
   pub verdict : verdictOf (v .verdict) ≡ rule.verdictH a c f
 
-pub record SaysR (a : Attribute) (c : Card) (f : rule.Figures) (v : Value) : Type 0 where
+pub record IsR (a : Attribute) (c : Card) (f : rule.Figures) (v : Value) : Type 0 where
   pub places : v .places ≡ placesOfX a
   pub value : v .value ≡ rule.rangeOf f
   pub limit : limitOf (v .limit) ≡ rule.toleratedFor c f
