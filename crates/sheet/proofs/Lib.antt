@@ -5,3 +5,5 @@ pub mod Falling
 pub mod Prefix
 pub mod Spelt
 pub mod Ready
+pub mod Judging
+pub mod Longest

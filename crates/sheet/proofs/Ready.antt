@@ -13,8 +13,8 @@ use lib.Seq.{getD-set-same, getD-set-other}
 use borrow.Author.Tests.{eqb-true, leb-true, ltb-true, le-leb, le-ltb}
 use Rattle.rules.specs.Choice.{pick}
 use Rattle.rules.specs.Limits.{mostHeld, leastReported, criticals, mostRows, widest}
-use Rattle.rules.specs.Fields.{fieldOf}
-use Rattle.rules.specs.Frames.{lotFrame, cardFrame, criticalFrame, rangeFrame, resultFrame, endFrame, kindFrame, frameOf}
+use Rattle.rules.specs.Fields.{allDigits, fieldOf}
+use Rattle.rules.specs.Frames.{sized, lotFrame, cardFrame, criticalFrame, rangeFrame, resultFrame, endFrame, kindFrame, frameOf}
 use Rattle.rules.specs.Cards.{lotGood, headGood, rowGood, rowsGood, criticalGood, criticalsGood, openNumber}
 use Rattle.rules.specs.Ledger.{Ledger, openOn, enterOn, freshLedger}
 use Rattle.rules.specs.Reading.{State, goes, stops, withHead, withCritical, withRow, begun, andThen, onLedger, lotStep, cardStep, criticalStep, rangeStep, resultStep, endStep, stepOf, atStart}
@@ -103,15 +103,20 @@ fits-pick : (b : Bool) (f g : Frame) → Fits f → Fits g → Fits (pick b f g)
 fits-pick true f g p q = p
 fits-pick false f g p q = q
 
+fits-sized : (d : List ℕ) (n : ℕ) (f : Frame) → Fits f → Fits (sized d n f)
+fits-sized d n f p = fits-pick (eqb (length d) n) f frame.Bad p tt
+
 frame-fits : (d : List ℕ) → Fits (frameOf d)
 unfolding frameOf kindFrame lotFrame cardFrame criticalFrame rangeFrame resultFrame endFrame
 frame-fits d =
-    let sized = λ (n : ℕ) (f : Frame) (p : Fits f). fits-pick (eqb (length d) n) f frame.Bad p tt in
-    fits-pick _ _ frame.Bad
-    (fits-pick _ _ _ (sized 8 _ tt)
-    (fits-pick _ _ _ (sized 10 _ tt)
-    (fits-pick _ _ _ (sized 8 (frame.Critical (fieldOf d 2 2) (fieldOf d 4 4)) (omega (arith, field-lt d 4 4)))
-    (fits-pick _ _ _ (sized 14 _ tt) (fits-pick _ _ _ (sized 10 _ tt) (fits-pick _ _ frame.Bad (sized 4 _ tt) tt))))))
+    let k = fieldOf d 0 2 in
+    fits-pick (allDigits d && leb 2 (length d)) _ frame.Bad
+    (fits-pick (eqb k 1) (lotFrame d) _ (fits-sized d 8 (frame.Lot (fieldOf d 2 2) (fieldOf d 4 4)) tt)
+    (fits-pick (eqb k 2) (cardFrame d) _ (fits-sized d 10 (frame.Card (fieldOf d 2 2) (fieldOf d 4 2) (fieldOf d 6 4)) tt)
+    (fits-pick (eqb k 3) (criticalFrame d) _ (fits-sized d 8 (frame.Critical (fieldOf d 2 2) (fieldOf d 4 4)) (omega (arith, field-lt d 4 4)))
+    (fits-pick (eqb k 4) (rangeFrame d) _ (fits-sized d 14 (frame.Range (fieldOf d 2 2) (fieldOf d 4 2) (fieldOf d 6 4) (fieldOf d 10 4)) tt)
+    (fits-pick (eqb k 5) (resultFrame d) _ (fits-sized d 10 (frame.Result (fieldOf d 2 4) (fieldOf d 6 4)) tt)
+    (fits-pick (eqb k 6) (endFrame d) frame.Bad (fits-sized d 4 (frame.End (fieldOf d 2 2)) tt) tt))))))
     tt
 
 -- ---- frame by frame

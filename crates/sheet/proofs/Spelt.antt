@@ -31,12 +31,16 @@ made-held l c es g (enters {es = ds} {g = h} k x m q) =
     rw length-append (omega (arith, enter-more h k x q .1, made-held l c ds h m))
 
 -- ---- what the lines so far say
-record So (s : State) (es : List Entry) : Type 0 where
-  early : s .before < 5 → es ≡ []
-  late : 5 ≤ s .before → Made (s .lot) (s .card) es (s .ledger)
-  count : length es ≡ s .results
+pub record So (s : State) (es : List Entry) : Type 0 where
+  pub early : s .before < 5 → es ≡ []
+  pub late : 5 ≤ s .before → Made (s .lot) (s .card) es (s .ledger)
+  pub count : length es ≡ s .results
 
-so-start : So atStart []
+-- 06 is compared with the number of result frames, which is what is held
+pub results-held : (s : State) (es : List Entry) → So s es → 5 ≤ s .before → held (s .ledger) ≡ s .results
+results-held s es h b = made-held (s .lot) (s .card) es (s .ledger) (h .late b) ∙ h .count
+
+pub so-start : So atStart []
 so-start = record { early = λ h. refl; late = λ h. absurd (omega arith); count = refl }
 
 -- a frame of the lot or the card, before the lot is opened
@@ -107,7 +111,7 @@ module _ (s u : State) (es : List Entry) (h : So s es) where
       rw (← same (t .1))
       (record { early = λ i. absurd (omega arith); late = λ i. so-begun s es h (o .0); count = h .count })
 
-  so-step : (f : Frame) → stepOf f s ≡ goes u → So u (es ++ entryOf f)
+  pub so-step : (f : Frame) → stepOf f s ≡ goes u → So u (es ++ entryOf f)
   so-step frame.Bad q = never q
   so-step (frame.Lot a n) q = rw append-nil (so-lot a n q)
   so-step (frame.Card f g n) q = rw append-nil (so-card f g n q)

@@ -1,10 +1,15 @@
-// The sheet's reader: a sheet's bytes in, its tally or its first fault out.
-ghost use Rattle.rules.specs.Numbers.{numberOf};
+// A sheet's bytes in; its tally or its first fault out, or all that lotreport prints for them.
+ghost use mathlib.Core.Path.{_≡_};
+ghost use Rattle.rules.specs.Numbers.{numberOf, printedAnswer};
+ghost use Rattle.rules.specs.Printing.{printOn};
 ghost use Rattle.rules.specs.Reading.{refused as Reading·refused, readOf};
 ghost use Rattle.sheet.specs.Promise.{Tells};
+use rules::Printed;
 use rules::Refusal;
+use rules::Reported;
 use tally::Tally;
 
+mod refusing;
 mod steps;
 
 pub enum Answer {
@@ -60,4 +65,25 @@ pub fn read(sheet: &[u8]) -> Reading
         };
     }
     refused(Refusal::OutOfTurn, line)
+}
+
+// What lotreport prints for a sheet: the report of its tally, or the line of its first fault. A sheet with too few results is
+// refused at its last line, that of the 06 frame.
+pub fn judge(sheet: &[u8], buf: &mut [u8]) -> Printed
+    ensures { λ r. ⌜ printedAnswer r (now (buf .exit)) ≡ printOn (now (sheet .entry)) (now (buf .entry)) ⌝ }
+{
+    let reading = read(sheet);
+    let answer = reading.answer;
+    let t = reading.tally;
+    match answer {
+        Answer::Refused(e, line) => refusing::print(buf, e.number(), line),
+        Answer::Accepted(lines) => {
+            let told = report::report(t, buf);
+            match told {
+                Reported::Length(n) => Printed::Length(n),
+                Reported::TooFew => refusing::print(buf, 15, lines),
+                Reported::BufferShort => Printed::BufferShort,
+            }
+        }
+    }
 }
