@@ -1,4 +1,5 @@
 pub mod Balance
+pub mod Sheets
 pub mod Together
 pub mod EndlessLaws
 pub mod Printed

@@ -17,8 +17,12 @@ use Rattle.tally.specs.declared.Tally.{Tally}
 use Rattle.tally.specs.View.{view}
 use Rattle.tally.specs.Calls.{Sound}
 use Rattle.tally.proofs.Steps.{size-is}
+use Rattle.sheet.specs.declared.Answer.{Answer}
+use Rattle.sheet.specs.Promise.{outcomeOf}
+use Rattle.sheet.proofs.Spelt.{spelled}
 use Rattle.history.specs.Calls.{Calls, ledger}
-use Rattle.history.specs.Run.{Run}
+use Rattle.history.specs.Run.{Run, read}
+use Rattle.history.specs.Sheets.{SheetsAreRuns}
 use Rattle.history.specs.Whole.{Ends, Whole}
 use Rattle.history.specs.Alike.{OrderIsFree}
 use Rattle.history.proofs.Balance.{fair}
@@ -82,3 +86,8 @@ order-is-free cs ds ns ms t u p q e =
           let n = together h in
           a .right (i .sound, m .sound) ∙ (ap₂ (λ (x y : Ledger). joinOn x y) s (m .same ∙ (d ∙ sym (n .same))) ∙ sym (b .right (j .sound, n .sound)));
     }
+
+pub sheets-are-runs : SheetsAreRuns
+sheets-are-runs κ sheet r n x a =
+    let s = spelled (now sheet) (view (r .tally)) n (sym (x .right) ∙ ap (λ (o : Answer). outcomeOf o (r .tally)) a) in
+    record { lot = s .lot; card = s .card; run = read κ sheet x a (s .made) }

@@ -17,7 +17,8 @@ use Rattle.tally.specs.View.{view, stored}
 use Rattle.tally.specs.Calls.{Sound, Opened, answer, freshTally}
 use Rattle.tally.proofs.Answer.{emptied-sound}
 use Rattle.history.specs.Calls.{Calls, judge, ledger, answers}
-use Rattle.history.specs.Run.{Run, begun, taken, opened, entered, withdrawn, joined}
+use Rattle.history.specs.Run.{Run, begun, taken, opened, entered, withdrawn, joined, read}
+use Rattle.history.proofs.Sheets.{made-ledger, made-answers}
 
 -- the tally and the ledger after the same calls
 pub record Together (cs : Calls) (ns : List ℕ) (t : Tally) : Type 0 where
@@ -75,3 +76,4 @@ together (joined {r = r} t o u v j) =
     let h = together v in
     let e = further r _ (j .right (i .sound, h .sound) ∙ ap₂ (λ (f g : Ledger). joinOn f g) (i .same) (h .same)) (i .judged) in
     record { same = e .0; judged = e .1; sound = j .sound (i .sound, h .sound) }
+together (read κ sheet x a m) = record { same = sym (made-ledger m); judged = made-answers m; sound = x .sound }

@@ -6,6 +6,7 @@ use lib.Dec.{eqb}
 use Rattle.rules.specs.Choice.{pick}
 use Rattle.rules.specs.declared.Lot.{Lot}
 use Rattle.rules.specs.declared.Card.{Card}
+use Rattle.sheet.specs.Spelling.{Entry}
 use Rattle.rules.specs.Ledger.{Ledger, Judged, freshLedger, held, openOn, enterOn, withdrawOn, joinOn}
 
 -- a list of calls, the last one outermost; a join has the list of the calls that made the other tally
@@ -64,3 +65,8 @@ counts (joins cs ds) =
     ifAccepted (judge (joins cs ds) .number)
     (record { entered = counts cs .entered; withdrawn = counts cs .withdrawn; joined = counts cs .joined + held (ledger ds) })
     (counts cs)
+
+-- a list of calls, and then an enter for each entry, in their order
+unfoldable pub entersAll : Calls → List Entry → Calls
+entersAll cs [] = cs
+entersAll cs (e ∷ es) = entersAll (enters cs (e .container) (e .x)) es

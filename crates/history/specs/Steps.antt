@@ -14,6 +14,8 @@ use Rattle.tally.proofs.enter.Reads as enter-reads
 use Rattle.tally.proofs.withdraw.Reads as withdraw-reads
 use Rattle.tally.proofs.join.Reads as join-reads
 use Rattle.report.proofs.report.Reads as report-reads
+use Rattle.sheet.specs.declared.Reading.{Reading}
+use Rattle.sheet.proofs.read.Reads as read-reads
 
 abbrev pub FreshStep : Tally → Type 0
 FreshStep t = fresh-reads.Learnt tt tt t tt
@@ -33,3 +35,7 @@ JoinStep t o r = join-reads.Learnt tt (t, (o, tt)) r (t, (o, tt))
 -- a report of t into the buffer that has `before`, and `after` as the call returns
 abbrev pub ReportStep : Lft → Tally → RefT (List ℕ) → Reported → RefT (List ℕ) → Type 0
 ReportStep κ t before r after = report-reads.Learnt (κ, tt) (t, (before, tt)) r (t, (after, tt))
+
+-- a sheet that is read
+abbrev pub ReadStep : Lft → RefT (List ℕ) → Reading → Type 0
+ReadStep κ sheet r = read-reads.Learnt (κ, tt) (sheet, tt) r (sheet, tt)
