@@ -1,12 +1,12 @@
 -- Laws of the words that lotmixing has read: one more, and what is said to them. Assumes nothing.
-use mathlib.Core.Path.{_≡_, refl, sym, ap, _∙_}
+use mathlib.Core.Path.{_≡_, sym, ap, _∙_}
 use mathlib.Core.Bool.{true, false}
 use mathlib.Core.List.{List, [], _∷_, _++_, map-id}
 use Prim.Native.Nat.{ℕ, _+_, _≤_, _<_, min}
 use native.Mathlib.Decide.{decLe}
 use native.Mathlib.Numerals.{add-one}
 use native.Mathlib.Omega.{arith}
-use lib.ListN.{length, take, set, length-take}
+use lib.ListN.{length, take, set}
 use lib.Seq.{take-all, take-suc-set, length-take-le}
 use mir.Val.{Val}
 use denote.Laws.{Is}

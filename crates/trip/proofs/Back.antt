@@ -1,18 +1,18 @@
 -- The sheet of a writable ledger yields that ledger. Assumes nothing.
 use mathlib.Core.Path.{_≡_, refl, sym, ap, _∙_, subst}
-use mathlib.Core.Bool.{Bool, true, _&&_}
+use mathlib.Core.Bool.{true}
 use mathlib.Core.List.{List, [], append-nil}
 use Prim.Native.Nat.{ℕ, _≤_, _<_, min}
 use native.Mathlib.Omega.{arith}
 use native.Mathlib.Decide.{decLe}
-use lib.Dec.{eqb, leb}
+use lib.Dec.{leb}
 use lib.ListN.{length, getD, take}
 use lib.Seq.{getD-take, take-all}
 use borrow.Author.Tests.{eqb-true, leb-true, lt-leb, le-leb}
-use Rattle.rules.specs.Limits.{criticals, mostRows, widest}
+use Rattle.rules.specs.Limits.{mostHeld, criticals, mostRows}
 use Rattle.rules.specs.Places.{Places, one, total}
-use Rattle.rules.specs.Cards.{seedsGood, headGood, lotGood, rowsGood, criticalsGood, cardGood, openNumber, cut}
-use Rattle.rules.specs.Ledger.{Ledger, held, containers, opened, withPlaces, freshCard, freshLedger}
+use Rattle.rules.specs.Cards.{seedsGood, headGood, rowsGood, criticalsGood, cardGood, openNumber, cut}
+use Rattle.rules.specs.Ledger.{Ledger, held, containers, opened, withPlaces, freshCard}
 use Rattle.rules.specs.Lines.{linesOf}
 use Rattle.rules.specs.Reading.{State, accepted, withHead, lotStep, cardStep, readFrom, atStart, readOf}
 use Rattle.rules.specs.Writing.{lotLine, cardLine, criticalLines, rangeLines, resultLines, endLine, sheetOf}
@@ -176,7 +176,7 @@ module _ (g : Ledger) (w : Writable g) where
   reach-rows =
       rows-reach b₃ (within₃ .0) (within₃ .1) L D C last (C .rows) rows-few rows-good (λ i h. omega (arith, w .carded .narrow i h)) (C .rows) (omega arith)
 
-  few : total one N f ≤ 60
+  few : total one N f ≤ mostHeld
   unfolding f
   few = w .placed .small
 

@@ -1,19 +1,19 @@
 -- The lines of a card: its critical values and its rows. Assumes nothing.
 use mathlib.Core.Path.{_≡_, refl, sym, ap, _∙_}
-use mathlib.Core.Bool.{Bool, true, false, _&&_}
+use mathlib.Core.Bool.{Bool, true, false}
 use mathlib.Core.List.{List, [], _∷_, _++_}
 use Prim.Native.Nat.{ℕ, zero, suc, _+_, _-_, _≤_, _<_}
 use native.Mathlib.Omega.{arith}
 use native.Mathlib.Numerals.{add-one}
 use native.Mathlib.Decide.{ℕ-discrete, decLt}
-use lib.Dec.{eqb, leb, ltb}
-use lib.ListN.{length, getD, take, set, replicate, length-set, length-replicate, getD-replicate}
+use lib.Dec.{eqb, leb}
+use lib.ListN.{length, getD, take, set, replicate, length-set, getD-replicate}
 use lib.Seq.{getD-set-same, getD-set-other, take-suc-set, take-suc, ext-getD}
 use borrow.Author.Tests.{eq-eqb, eqb-true, eqb-false, le-leb, leb-true, lt-ltb, le-ltb}
 use Rattle.rules.specs.Choice.{pick}
 use Rattle.rules.specs.Limits.{mostHeld, leastReported, criticals, mostRows, highestX}
 use Rattle.rules.specs.Cards.{rowGood, rowsGood, criticalGood, criticalsGood}
-use Rattle.rules.specs.Ledger.{Ledger, freshLedger}
+use Rattle.rules.specs.Ledger.{freshLedger}
 use Rattle.rules.specs.Reading.{State, criticalStep, rangeStep}
 use Rattle.rules.specs.Writing.{criticalLine, maybeLine, criticalLines, rangeLine, rangeLines}
 use Rattle.rules.specs.declared.Lot.{Lot}

@@ -1,16 +1,16 @@
 -- No sheet is longer than 2,629 bytes, and one has that length. Assumes nothing.
-use mathlib.Core.Path.{_≡_, refl, sym, ap, _∙_}
-use mathlib.Core.Bool.{true, _&&_}
+use mathlib.Core.Path.{_≡_, refl, ap, _∙_}
+use mathlib.Core.Bool.{true}
 use mathlib.Core.List.{List}
-use Prim.Native.Nat.{ℕ, zero, suc, _+_, _≤_, _<_}
+use Prim.Native.Nat.{ℕ, zero, suc, _+_, _≤_}
 use native.Mathlib.Omega.{arith}
 use native.Mathlib.Decide.{decLe}
 use lib.ListN.{length, getD}
 use borrow.Author.Tests.{eq-eqb, eqb-true, lt-ltb}
 use Rattle.rules.specs.Limits.{mostHeld, leastReported, criticals}
-use Rattle.rules.specs.Places.{Places, free, holds, one, total}
+use Rattle.rules.specs.Places.{Places, holds, one, total}
 use Rattle.rules.specs.Cards.{headGood, criticalsGood, rowsGood, openNumber}
-use Rattle.rules.specs.Ledger.{Ledger, Judged, judged, held, opened, withPlaces, freshLedger}
+use Rattle.rules.specs.Ledger.{Ledger, Judged, judged, opened, withPlaces, freshLedger}
 use Rattle.rules.specs.Writing.{sheetOf}
 use Rattle.rules.proofs.Tests.{and-left, and-right}
 use Rattle.rules.proofs.CardLaws.{open-card, open-rows}

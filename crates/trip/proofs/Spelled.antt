@@ -1,15 +1,18 @@
 -- Each line that the writer spells is the frame that it stands for. Assumes nothing.
 use mathlib.Core.Path.{_≡_, refl, sym, ap, ap₂, _∙_}
-use mathlib.Core.Bool.{Bool, true, false, _&&_, _||_, true≢false}
+use mathlib.Core.Bool.{Bool, true, false, _||_, true≢false}
 use mathlib.Core.List.{List, [], _∷_, _++_, append-assoc, append-nil}
 use Prim.Native.Nat.{ℕ, zero, suc, _+_, _/_, _%_, _^_, _≤_, _<_}
+use native.Mathlib.Nat.{add-zero}
 use native.Mathlib.Omega.{arith}
 use native.Mathlib.Decide.{decLe}
+use lib.Dec.{eqb}
 use lib.ListN.{length, take, drop, length-append}
 use lib.Seq.{take-at, drop-append-add}
 use borrow.Author.Tests.{eq-eqb, ne-eqb, le-leb}
+use Rattle.rules.specs.Choice.{pick}
 use Rattle.rules.specs.Text.{byte}
-use Rattle.rules.specs.Lines.{Line, ended, cutFrom, linesOf}
+use Rattle.rules.specs.Lines.{ended, cutFrom, linesOf}
 use Rattle.rules.specs.Fields.{isDigit, allDigits, number, fieldOf, digits, digitOf}
 use Rattle.rules.specs.Frames.{lotFrame, cardFrame, criticalFrame, rangeFrame, resultFrame, endFrame, kindFrame, frameOf}
 use Rattle.rules.specs.Writing.{lotLine, cardLine, criticalLine, rangeLine, resultLine, endLine}
@@ -88,17 +91,32 @@ spells x d k q f e z h p r =
     let kind : fieldOf d 0 2 ≡ k = rw z (field-head 2 k q h) in
     record { digits = d; ends = e; all = all; is = rw (all, le-leb 2 (length d) long, kind) r }
 
+-- ---- a line of two fields
+module _ (k j a m n : ℕ) (hk : k < 256) (ha : a < 16 ^ j) (hn : n < 16 ^ m) where
+  abbrev both : List ℕ
+  both = digits 2 k ++ (digits j a ++ digits m n)
+
+  both-size : length both ≡ 2 + (j + m)
+  both-size = simp (length-append, length-digits)
+
+  both-first : fieldOf both 2 j ≡ a
+  both-first = field-skip 2 k _ 0 j ∙ field-head j a _ ha
+
+  both-second : fieldOf both (2 + j) m ≡ n
+  both-second =
+      field-skip 2 k _ j m
+      ∙ (ap (λ (i : ℕ). fieldOf (digits j a ++ digits m n) i m) (sym (add-zero j)) ∙ (field-skip j a _ 0 m ∙ field-only m n hn))
+
+  both-spells : (x : List ℕ) (f : ℕ → ℕ → Frame) → x ≡ both ++ byte 10
+      → kindFrame k both ≡ pick (eqb (length both) (2 + (j + m))) (f (fieldOf both 2 j) (fieldOf both (2 + j) m)) frame.Bad → Spells x (f a n)
+  both-spells x f e r =
+      spells x both k (digits j a ++ digits m n) (f a n) e refl hk (all-more j a _ (all-digits m n))
+      (r ∙ rw (eq-eqb (length both) (2 + (j + m)) both-size) (ap₂ f both-first both-second))
+
 -- ---- the six kinds
-module _ (a n : ℕ) (ha : a < 256) (hn : n < 65536) where
-  pub lot-spells : Spells (lotLine a n) (frame.Lot a n)
-  unfolding lotLine kindFrame lotFrame
-  lot-spells =
-      let q = digits 2 a ++ digits 4 n in
-      let d = digits 2 1 ++ q in
-      let size : length d ≡ 8 = simp (length-append, length-digits) in
-      spells _ d 1 q _ (simp append-assoc) refl (omega arith) (all-more 2 a _ (all-digits 4 n))
-      (rw (eq-eqb (length d) 8 size)
-      (ap₂ frame.Lot (field-skip 2 1 _ 0 2 ∙ field-head 2 a _ ha) (field-skip 2 1 _ 2 4 ∙ (field-skip 2 a _ 0 4 ∙ field-only 4 n hn))))
+pub lot-spells : (a n : ℕ) → a < 256 → n < 65536 → Spells (lotLine a n) (frame.Lot a n)
+unfolding lotLine kindFrame lotFrame
+lot-spells a n ha hn = both-spells 1 2 a 4 n (omega arith) ha hn _ frame.Lot (simp append-assoc) refl
 
 module _ (f g n : ℕ) (hf : f < 256) (hg : g < 256) (hn : n < 65536) where
   pub card-spells : Spells (cardLine f g n) (frame.Card f g n)
@@ -113,16 +131,9 @@ module _ (f g n : ℕ) (hf : f < 256) (hg : g < 256) (hn : n < 65536) where
       spells _ d 2 q _ (simp append-assoc) refl (omega arith) (all-more 2 f _ (all-more 2 g _ (all-digits 4 n)))
       (rw (eq-eqb (length d) 10 size) (λ i. frame.Card (e1 i) (e2 i) (e3 i)))
 
-module _ (k v : ℕ) (hk : k < 256) (hv : v < 65536) where
-  pub critical-spells : Spells (criticalLine k v) (frame.Critical k v)
-  unfolding criticalLine kindFrame criticalFrame
-  critical-spells =
-      let q = digits 2 k ++ digits 4 v in
-      let d = digits 2 3 ++ q in
-      let size : length d ≡ 8 = simp (length-append, length-digits) in
-      spells _ d 3 q _ (simp append-assoc) refl (omega arith) (all-more 2 k _ (all-digits 4 v))
-      (rw (eq-eqb (length d) 8 size)
-      (ap₂ frame.Critical (field-skip 2 3 _ 0 2 ∙ field-head 2 k _ hk) (field-skip 2 3 _ 2 4 ∙ (field-skip 2 k _ 0 4 ∙ field-only 4 v hv))))
+pub critical-spells : (k v : ℕ) → k < 256 → v < 65536 → Spells (criticalLine k v) (frame.Critical k v)
+unfolding criticalLine kindFrame criticalFrame
+critical-spells k v hk hv = both-spells 3 2 k 4 v (omega arith) hk hv _ frame.Critical (simp append-assoc) refl
 
 module _ (l h b r : ℕ) (hl : l < 256) (hh : h < 256) (hb : b < 65536) (hr : r < 65536) where
   pub range-spells : Spells (rangeLine l h b r) (frame.Range l h b r)
@@ -138,22 +149,14 @@ module _ (l h b r : ℕ) (hl : l < 256) (hh : h < 256) (hb : b < 65536) (hr : r 
       spells _ d 4 q _ (simp append-assoc) refl (omega arith) (all-more 2 l _ (all-more 2 h _ (all-more 4 b _ (all-digits 4 r))))
       (rw (eq-eqb (length d) 14 size) (λ i. frame.Range (e1 i) (e2 i) (e3 i) (e4 i)))
 
-module _ (c x : ℕ) (hc : c < 65536) (hx : x < 65536) where
-  pub result-spells : Spells (resultLine c x) (frame.Result c x)
-  unfolding resultLine kindFrame resultFrame
-  result-spells =
-      let q = digits 4 c ++ digits 4 x in
-      let d = digits 2 5 ++ q in
-      let size : length d ≡ 10 = simp (length-append, length-digits) in
-      spells _ d 5 q _ (simp append-assoc) refl (omega arith) (all-more 4 c _ (all-digits 4 x))
-      (rw (eq-eqb (length d) 10 size)
-      (ap₂ frame.Result (field-skip 2 5 _ 0 4 ∙ field-head 4 c _ hc) (field-skip 2 5 _ 4 4 ∙ (field-skip 4 c _ 0 4 ∙ field-only 4 x hx))))
+pub result-spells : (c x : ℕ) → c < 65536 → x < 65536 → Spells (resultLine c x) (frame.Result c x)
+unfolding resultLine kindFrame resultFrame
+result-spells c x hc hx = both-spells 5 4 c 4 x (omega arith) hc hx _ frame.Result (simp append-assoc) refl
 
-module _ (n : ℕ) (hn : n < 256) where
-  pub end-spells : Spells (endLine n) (frame.End n)
-  unfolding endLine kindFrame endFrame
-  end-spells =
-      let d = digits 2 6 ++ digits 2 n in
-      let size : length d ≡ 4 = simp (length-append, length-digits) in
-      spells _ d 6 (digits 2 n) _ (simp append-assoc) refl (omega arith) (all-digits 2 n)
-      (rw (eq-eqb (length d) 4 size) (ap frame.End (field-skip 2 6 _ 0 2 ∙ field-only 2 n hn)))
+pub end-spells : (n : ℕ) → n < 256 → Spells (endLine n) (frame.End n)
+unfolding endLine kindFrame endFrame
+end-spells n hn =
+    let d = digits 2 6 ++ digits 2 n in
+    let size : length d ≡ 4 = simp (length-append, length-digits) in
+    spells _ d 6 (digits 2 n) _ (simp append-assoc) refl (omega arith) (all-digits 2 n)
+    (rw (eq-eqb (length d) 4 size) (ap frame.End (field-skip 2 6 _ 0 2 ∙ field-only 2 n hn)))

@@ -1,13 +1,13 @@
 -- Sheets are read, and written back, so that lot, card and held results return unchanged. Assumes nothing.
 use mathlib.Core.Path.{_≡_, refl, ap, _∙_}
 use mathlib.Core.List.{List}
-use Prim.Native.Nat.{ℕ, _≤_, _<_}
+use Prim.Native.Nat.{ℕ, _<_}
 use native.Mathlib.Omega.{arith}
 use native.Mathlib.Decide.{ℕ-discrete, decLt}
 use lib.ListN.{length, take}
 use lib.Seq.{take-at}
 use borrow.Author.Tests.{eq-eqb, ne-eqb}
-use Rattle.rules.specs.Numbers.{Told, wrote, leaves}
+use Rattle.rules.specs.Numbers.{Told, wrote}
 use Rattle.rules.specs.Text.{laid, laidIn}
 use Rattle.rules.specs.Writing.{sheetOf, writeOn}
 use Rattle.rules.specs.declared.Written.the-variants.{Length}

@@ -12,22 +12,21 @@ use lib.Seq.{getD-take, getD-set-same, getD-set-other}
 use borrow.Author.Tests.{eqb-true, eq-eqb, ltb-true, ltb-false}
 use Rattle.rules.specs.Choice.{pick}
 use Rattle.rules.specs.Limits.{mostHeld, leastReported, criticals, mostRows, highestX, widest}
-use Rattle.rules.specs.Places.{Place, Places, free, holds, none, put, one, total}
-use Rattle.rules.specs.Cards.{lotGood, headGood, rowGood, rowsGood, cardGood, openNumber, cut}
-use Rattle.rules.specs.Ledger.{Ledger, Judged, held, containers, opened, openOn, enterOn, withPlaces, freshLedger}
+use Rattle.rules.specs.Places.{Places, free, holds, none, put, one, total}
+use Rattle.rules.specs.Cards.{lotGood, headGood, rowGood, rowsGood, openNumber, cut}
+use Rattle.rules.specs.Ledger.{Ledger, Judged, containers, openOn, enterOn, freshLedger}
 use Rattle.rules.specs.Lines.{Line, ended, unended, linesOf}
 use Rattle.rules.specs.Fields.{allDigits, fieldOf}
 use Rattle.rules.specs.Frames.{sized, lotFrame, cardFrame, criticalFrame, rangeFrame, resultFrame, endFrame, kindFrame, frameOf}
-use Rattle.rules.specs.Reading.{State, Next, goes, stops, Outcome, accepted, refused, withHead, withCritical, withRow, begun, andThen, onLedger, lotStep, cardStep, criticalStep, rangeStep, resultStep, endStep, stepOf, after, readFrom, atStart, readOf}
+use Rattle.rules.specs.Reading.{State, Next, goes, stops, accepted, refused, begun, andThen, onLedger, lotStep, cardStep, criticalStep, rangeStep, resultStep, endStep, stepOf, after, readFrom, atStart, readOf}
 use Rattle.rules.specs.declared.Lot.{Lot}
 use Rattle.rules.specs.declared.Card.{Card}
 use Rattle.rules.specs.declared.Frame.{Frame}
 use Rattle.rules.specs.declared.Frame.the-variants as frame
-use Rattle.rules.proofs.Tests.{and-left, and-right}
 use Rattle.rules.proofs.PlaceLaws.{free-is, put-same, put-other, total-put, total-none}
 use Rattle.rules.proofs.LedgerLaws.{Enters, enter-tells}
 use Rattle.rules.proofs.CardLaws.{open-rows}
-use Rattle.rules.proofs.FieldLaws.{value-lt, field-lt, field-more}
+use Rattle.rules.proofs.FieldLaws.{field-lt}
 use Rattle.tally.specs.View.{stored, view}
 use Rattle.tally.specs.Calls.{Narrow, Sized, Sound}
 use Rattle.tally.specs.declared.Tally.{Tally}
@@ -139,11 +138,11 @@ enter-placed g c x n p =
     low k y e (no q) = p .low k y (sym (put-other (g .places) c (holds x) k q) ∙ e)
 
 -- the fields of a frame fit their digits
-field-wide : (d : List ℕ) (a : ℕ) → a + 4 ≤ length d → fieldOf d a 4 ≤ widest
-field-wide d a h = omega (arith, field-lt d a 3 (omega arith) (omega arith), field-more d a 3 (omega arith), value-lt (getD d (a + 3) 0))
+field-wide : (d : List ℕ) (a : ℕ) → fieldOf d a 4 ≤ widest
+field-wide d a = omega (arith, field-lt d a 4)
 
-field-pair : (d : List ℕ) (a : ℕ) → a + 2 ≤ length d → fieldOf d a 2 ≤ widest
-field-pair d a h = omega (arith, field-lt d a 2 h (omega arith))
+field-pair : (d : List ℕ) (a : ℕ) → fieldOf d a 2 ≤ widest
+field-pair d a = omega (arith, field-lt d a 2)
 
 -- what the reader goes by of a frame's numbers
 abbrev Narrowed : Frame → Type 0
@@ -155,25 +154,24 @@ Narrowed (frame.Range l h b r) = r ≤ widest
 Narrowed (frame.Result c x) = Unit {0}
 Narrowed (frame.End n) = Unit {0}
 
-narrow-if : (b : Bool) (f g : Frame) → (b ≡ true → Narrowed f) → Narrowed g → Narrowed (pick b f g)
-narrow-if true f g p q = p refl
+narrow-if : (b : Bool) (f g : Frame) → Narrowed f → Narrowed g → Narrowed (pick b f g)
+narrow-if true f g p q = p
 narrow-if false f g p q = q
 
-narrow-sized : (d : List ℕ) (n : ℕ) (f : Frame) → (length d ≡ n → Narrowed f) → Narrowed (sized d n f)
-narrow-sized d n f p = narrow-if (eqb (length d) n) f frame.Bad (λ e. p (eqb-true (length d) n e)) tt
+narrow-sized : (d : List ℕ) (n : ℕ) (f : Frame) → Narrowed f → Narrowed (sized d n f)
+narrow-sized d n f p = narrow-if (eqb (length d) n) f frame.Bad p tt
 
 narrowed : (d : List ℕ) → Narrowed (frameOf d)
 unfolding frameOf kindFrame lotFrame cardFrame criticalFrame rangeFrame resultFrame endFrame
 narrowed d =
     let k = fieldOf d 0 2 in
     narrow-if (allDigits d && leb 2 (length d)) _ _
-    (λ e.
-    narrow-if (eqb k 1) _ _ (λ e. narrow-sized d 8 _ (λ e. field-wide d 4 (omega arith)))
-    (narrow-if (eqb k 2) _ _ (λ e. narrow-sized d 10 (frame.Card _ _ _) (λ e. (field-pair d 2 (omega arith), field-pair d 4 (omega arith), field-wide d 6 (omega arith))))
-    (narrow-if (eqb k 3) _ _ (λ e. narrow-sized d 8 _ (λ e. tt))
-    (narrow-if (eqb k 4) _ _ (λ e. narrow-sized d 14 _ (λ e. field-wide d 10 (omega arith)))
-    (narrow-if (eqb k 5) _ _ (λ e. narrow-sized d 10 _ (λ e. tt))
-    (narrow-if (eqb k 6) _ _ (λ e. narrow-sized d 4 _ (λ e. tt)) tt))))))
+    (narrow-if (eqb k 1) _ _ (narrow-sized d 8 _ (field-wide d 4))
+    (narrow-if (eqb k 2) _ _ (narrow-sized d 10 (frame.Card _ _ _) (field-pair d 2, field-pair d 4, field-wide d 6))
+    (narrow-if (eqb k 3) _ _ (narrow-sized d 8 _ tt)
+    (narrow-if (eqb k 4) _ _ (narrow-sized d 14 _ (field-wide d 10))
+    (narrow-if (eqb k 5) _ _ (narrow-sized d 10 _ tt)
+    (narrow-if (eqb k 6) _ _ (narrow-sized d 4 _ tt) tt))))))
     tt
 
 -- what holds of the reader's state

@@ -30,7 +30,7 @@ abbrev pub largest32 : ℕ
 largest32 = 4294967295
 
 -- A word is a number where it has one digit or more and nothing else: no sign, no blank, no letter. A number above the largest of
--- 32 bits is handed back as that one: every limit that a number is held to lies far below it, so every call beside the tally
--- answers it like any other number above its limit.
+-- 32 bits is handed back as that one: every limit that a number is held to lies far below it, and every call beside the tally
+-- answers it like any other number above its limit (shown in proofs/Largest.antt).
 abbrev pub wordOf : List ℕ → Word
 wordOf word = pick (leb 1 (length word) && allDecimal word) (Number (min (decimalValue word) largest32)) NotANumber
