@@ -52,8 +52,11 @@ int main(void)
     print("mixing within 2.00", gelvorin_mixing(results, 3, 200));
     print("mixing within 1.99", gelvorin_mixing(results, 3, 199));
     print("mixing of one lot", gelvorin_mixing(results, 1, 200));
+    print_text("the sheet judged", gelvorin_judge, length, 4096);
+    print_text("the sheet judged into 40 bytes", gelvorin_judge, length, 40);
+    print_text("the first 40 bytes of the sheet judged", gelvorin_judge, 40, 4096);
     print_text("the sheet written back", gelvorin_rewrite, length, 4096);
     print_text("the sheet written back into 40 bytes", gelvorin_rewrite, length, 40);
-    print_text("the first 40 bytes of the sheet", gelvorin_rewrite, 40, 4096);
+    print_text("the first 40 bytes of the sheet written back", gelvorin_rewrite, 40, 4096);
     return 0;
 }

@@ -5,6 +5,7 @@ extern "C" {
     fn gelvorin_label(labelled: u32, found: u32) -> u64;
     fn gelvorin_pair(first: u32, second: u32) -> u64;
     fn gelvorin_mixing(results: *const u32, count: usize, tolerated: u32) -> u64;
+    fn gelvorin_judge(sheet: *const u8, length: usize, buffer: *mut u8, size: usize) -> u64;
     fn gelvorin_rewrite(sheet: *const u8, length: usize, buffer: *mut u8, size: usize) -> u64;
 }
 
@@ -29,6 +30,11 @@ fn pair(first: u32, second: u32) -> u64 {
 fn mixing(results: &[u32], tolerated: u32) -> u64 {
     // SAFETY: pointer and length are those of a slice that lives until the call returns.
     unsafe { gelvorin_mixing(results.as_ptr(), results.len(), tolerated) }
+}
+
+fn judge(sheet: &[u8], buffer: &mut [u8]) -> u64 {
+    // SAFETY: pointers and lengths are those of slices that live until the call returns, and do not overlap.
+    unsafe { gelvorin_judge(sheet.as_ptr(), sheet.len(), buffer.as_mut_ptr(), buffer.len()) }
 }
 
 fn rewrite(sheet: &[u8], buffer: &mut [u8]) -> u64 {
@@ -82,7 +88,15 @@ fn main() {
     print("mixing within 2.00", mixing(&results, 200));
     print("mixing within 1.99", mixing(&results, 199));
     print("mixing of one lot", mixing(&results[..1], 200));
+    print_text("the sheet judged", judge, SHEET, 4096);
+    print_text("the sheet judged into 40 bytes", judge, SHEET, 40);
+    print_text("the first 40 bytes of the sheet judged", judge, &SHEET[..40], 4096);
     print_text("the sheet written back", rewrite, SHEET, 4096);
     print_text("the sheet written back into 40 bytes", rewrite, SHEET, 40);
-    print_text("the first 40 bytes of the sheet", rewrite, &SHEET[..40], 4096);
+    print_text(
+        "the first 40 bytes of the sheet written back",
+        rewrite,
+        &SHEET[..40],
+        4096,
+    );
 }

@@ -35,6 +35,13 @@ uint64_t gelvorin_pair(uint32_t first, uint32_t second);
  * Refused with 17, outside the table: fewer than 2 or more than 60 results; else with 7, result too high: one is above 10000. */
 uint64_t gelvorin_mixing(const uint32_t *results, size_t count, uint32_t tolerated);
 
+/* Judges a sheet: lays what lotreport prints for it, the five lines of the report or the line REFUSED, at the front of the buffer.
+ * Answers the length of the text; the bytes behind it stay as they were. Any bytes are a sheet or have a first fault, which the text
+ * names with its line.
+ * Refused with 16, buffer short: the buffer is smaller than the text, and stays as it was.
+ * The sheet and the buffer must not overlap. */
+uint64_t gelvorin_judge(const uint8_t *sheet, size_t length, uint8_t *buffer, size_t size);
+
 /* Reads a sheet and writes it back: its frames in their order, the results in ascending container order. 2629 bytes are room
  * for every sheet. Answers the length of what was written to the front of the buffer; the bytes behind it stay as they were.
  * Refused with the number of the sheet's first fault (1 to 9, 14), or with 16, buffer short; then the buffer stays as it was.

@@ -1,9 +1,9 @@
 -- Laws of a sheet that is read and written back, as a host program is answered. Assumes nothing.
-use mathlib.Core.Path.{_≡_, refl, sym, ap, _∙_}
+use mathlib.Core.Path.{_≡_, refl, ap, _∙_}
 use mathlib.Core.List.{List}
 use Prim.Native.Nat.{ℕ}
 use Rattle.rules.specs.Numbers.{numberOf, writtenAnswer}
-use Rattle.rules.specs.Reading.{Outcome, readOf}
+use Rattle.rules.specs.Reading.{readOf}
 use Rattle.rules.specs.declared.Refusal.{Refusal}
 use Rattle.rules.specs.declared.Written.{Written}
 use Rattle.sheet.specs.Promise.{Tells, outcomeOf}

@@ -3,12 +3,14 @@
 ghost use mathlib.Core.Path.{_≡_};
 ghost use mathlib.Core.List.{List};
 ghost use Prim.Native.Nat.{ℕ};
-ghost use Rattle.rules.specs.Numbers.{samplesAnswer, toleranceAnswer, mixingAnswer, writtenAnswer};
+ghost use Rattle.rules.specs.Numbers.{samplesAnswer, toleranceAnswer, mixingAnswer, writtenAnswer, printedAnswer};
 ghost use Rattle.rules.specs.Sampling.{samplingOf};
 ghost use Rattle.rules.specs.Tolerance.{labelOf, pairOf};
 ghost use Rattle.rules.specs.Mixing.{mixingOf};
+ghost use Rattle.rules.specs.Printing.{printOn};
 ghost use Rattle.host.specs.Coding.{coded, left, told, rewriteOn};
 use rules::Mixing;
+use rules::Printed;
 use rules::Samples;
 use rules::Tolerance;
 use rules::Written;
@@ -79,7 +81,23 @@ pub extern "C" fn gelvorin_mixing(results: &[u32], tolerated: u32) -> u64
     mixing_code(mixing::mixable(results, tolerated))
 }
 
-// The length of what was written.
+fn printed_code(printed: Printed) -> u64
+    ensures { λ r. ⌜ ((b : List ℕ) → left r b ≡ told (printedAnswer printed b)) ⌝ }
+{
+    match printed {
+        Printed::Length(n) => n as u64,
+        Printed::BufferShort => REFUSED + 16,
+    }
+}
+
+// Judges a sheet: the text that lotreport prints for it.
+#[no_mangle]
+pub extern "C" fn gelvorin_judge(sheet: &[u8], buf: &mut [u8]) -> u64
+    ensures { λ r. ⌜ left r (now (buf .exit)) ≡ told (printOn (now (sheet .entry)) (now (buf .entry))) ⌝ }
+{
+    printed_code(sheet::judge(sheet, buf))
+}
+
 fn written_code(written: Written) -> u64
     ensures { λ r. ⌜ ((b : List ℕ) → left r b ≡ told (writtenAnswer written b)) ⌝ }
 {
