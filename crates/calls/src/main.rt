@@ -1,0 +1,121 @@
+// Runs the calls on standard input, one a line, and prints each answer. The calls on a tally name one of two tallies, 1 or 2:
+//
+//     open TALLY ATTRIBUTE CONTAINERS F G n ROWS LOWEST HIGHEST BOUND TOLERATED N CRITICAL+1    enter TALLY CONTAINER X
+//     withdraw TALLY CONTAINER    join TALLY (the other)    report TALLY    write TALLY
+//     sampling CONTAINERS KILOGRAMS    label LABELLED FOUND    pair FIRST SECOND    mixing TOLERATED X X ..
+mod beside;
+mod lines;
+mod print;
+mod tallies;
+
+use lines::MOST;
+use rules::Refusal;
+use tally::Outcome;
+use tally::Tally;
+
+// A call that changes a tally.
+fn changed(name: &[u8], t: Tally, other: Tally, numbers: &[u32; MOST]) -> Outcome {
+    if check::same(name, b"open") {
+        return tallies::open(t, numbers);
+    }
+    if check::same(name, b"enter") {
+        return tallies::enter(t, numbers);
+    }
+    if check::same(name, b"withdraw") {
+        return tallies::withdraw(t, numbers);
+    }
+    if check::same(name, b"join") {
+        return tally::join(t, other);
+    }
+    Outcome {
+        refusal: Refusal::BadLine,
+        tally: t,
+    }
+}
+
+// A call beside the tally is made, and any other is not.
+fn beside_made(name: &[u8], numbers: &[u32; MOST], count: usize) -> bool {
+    if check::same(name, b"sampling") {
+        beside::sampling(numbers);
+        return true;
+    }
+    if check::same(name, b"label") {
+        beside::label(numbers);
+        return true;
+    }
+    if check::same(name, b"pair") {
+        beside::pair(numbers);
+        return true;
+    }
+    if check::same(name, b"mixing") {
+        beside::mixing(numbers, count);
+        return true;
+    }
+    false
+}
+
+// A call that only reads a tally is made, and any other is not.
+fn reading_made(name: &[u8], t: Tally) -> bool {
+    if check::same(name, b"report") {
+        tallies::report(t);
+        return true;
+    }
+    if check::same(name, b"write") {
+        tallies::write(t);
+        return true;
+    }
+    false
+}
+
+// The tally after a call on it.
+fn after(name: &[u8], t: Tally, other: Tally, numbers: &[u32; MOST]) -> Tally {
+    if reading_made(name, t) {
+        return t;
+    }
+    let outcome = changed(name, t, other, numbers);
+    let refusal = outcome.refusal;
+    let next = outcome.tally;
+    print::answered(refusal.number(), next.held);
+    next
+}
+
+struct Two {
+    pub one: Tally,
+    pub two: Tally,
+}
+
+// Both tallies after a line's call.
+fn step(name: &[u8], both: Two, numbers: &[u32; MOST], count: usize) -> Two {
+    if beside_made(name, numbers, count) {
+        return both;
+    }
+    let one = both.one;
+    let two = both.two;
+    if numbers[0] == 2 {
+        let next = after(name, two, one, numbers);
+        return Two { one, two: next };
+    }
+    let next = after(name, one, two, numbers);
+    Two { one: next, two }
+}
+
+fn run(text: &[u8]) {
+    let mut both = Two {
+        one: tally::fresh(),
+        two: tally::fresh(),
+    };
+    let mut at = 0;
+    while at < text.len() {
+        let mut numbers = [0u32; MOST];
+        let line = lines::line_at(text, at, &mut numbers);
+        let end = line.end;
+        both = step(&text[at..end], both, &numbers, line.count);
+        at = line.next;
+    }
+}
+
+fn main() {
+    let mut text = io::large_buffer();
+    let n = io::read_full(libc::STDIN_FILENO, &mut text);
+    run(&text[..n]);
+}
