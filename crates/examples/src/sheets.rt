@@ -1,0 +1,70 @@
+// Sheets from files, each held against what lotreport must print for it.
+use crate::Tried;
+use crate::files;
+use rules::Printed;
+
+fn digit(n: usize) -> u8 {
+    (48 + n % 10) as u8
+}
+
+// A group's sheet n, as v007.sheet, and its expected text, as v007.out.
+fn sheet_name(group: u8, n: usize) -> [u8; 10] {
+    [
+        group,
+        digit(n / 100),
+        digit(n / 10),
+        digit(n),
+        b'.',
+        b's',
+        b'h',
+        b'e',
+        b'e',
+        b't',
+    ]
+}
+
+fn text_name(group: u8, n: usize) -> [u8; 8] {
+    [
+        group,
+        digit(n / 100),
+        digit(n / 10),
+        digit(n),
+        b'.',
+        b'o',
+        b'u',
+        b't',
+    ]
+}
+
+// Whether sheet n of a group is judged as its text says. As lotreport does, it reads 4,096 bytes and no more.
+fn agrees(group: u8, n: usize) -> bool {
+    let mut sheet = io::buffer();
+    let mut expected = io::buffer();
+    let mut printed = io::buffer();
+    let s = files::read(&sheet_name(group, n), &mut sheet);
+    let e = files::read(&text_name(group, n), &mut expected);
+    let answer = sheet::judge(&sheet[..s], &mut printed);
+    match answer {
+        Printed::Length(k) => {
+            if k <= 4096 {
+                return check::same(&printed[..k], &expected[..e]);
+            }
+            false
+        }
+        Printed::BufferShort => false,
+    }
+}
+
+pub fn group(name: u8, count: usize) -> Tried {
+    let mut right: u32 = 0;
+    let mut all: u32 = 0;
+    let mut n = 0;
+    while n < count {
+        if agrees(name, n) {
+            right = std::num::wrapping_add_u32(right, 1);
+        }
+        all = std::num::wrapping_add_u32(all, 1);
+        n += 1;
+    }
+    Tried { right, all }
+}
