@@ -1,0 +1,6 @@
+//! Sheets, lists of calls and numbers to compare, made from a seed.
+
+pub mod lists;
+pub mod numbers;
+pub mod plan;
+pub mod sheets;

@@ -1,0 +1,72 @@
+//! Numbers for the calls beside the tally.
+
+use crate::prng::Prng;
+
+/// Numbers at the ends of the types and of the tables.
+const ENDS: [u32; 12] = [0, 1, 2, 100, 101, 500, 501, 502, 65_535, 65_536, u32::MAX / 2, u32::MAX];
+
+/// Table 14G wholly, with numbers past its end.
+pub fn labels(prng: &mut Prng) -> Vec<(u32, u32)> {
+    let mut pairs = every(0..104, 0..130);
+    pairs.extend(ends(prng));
+    pairs
+}
+
+/// Table 14H wholly, with averages past its end.
+pub fn pairs(prng: &mut Prng) -> Vec<(u32, u32)> {
+    let mut pairs = every(0..540, 0..540);
+    pairs.extend(ends(prng));
+    pairs
+}
+
+/// Containers and kilograms: every small lot, the limits of the weights, and some at random.
+pub fn lots(prng: &mut Prng, number: usize) -> Vec<(u32, u32)> {
+    let mut lots = every(0..140, 0..420);
+    for weight in [500u32, 3_000, 20_000] {
+        for containers in 1..=200 {
+            let kilograms = weight / containers;
+            lots.extend([(containers, kilograms), (containers, kilograms + 1)]);
+        }
+    }
+    lots.extend(ends(prng));
+    for _ in 0..number {
+        let containers = prng.pick(&[16, 70, 3_000, 65_537]);
+        let kilograms = prng.pick(&[16, 120, 3_000, 65_537]);
+        lots.push((prng.below(containers) as u32, prng.below(kilograms) as u32));
+    }
+    lots
+}
+
+/// Component results with a tolerated range, mostly close to their range.
+pub fn components(prng: &mut Prng) -> (Vec<u32>, u32) {
+    let length = prng.pick(&[0, 1, 2, 2, 3, 5, 10, 30, 59, 60, 60, 61, 100]);
+    let width = prng.pick(&[1, 5, 100, 1_000, 10_001]);
+    let base = prng.below(10_001 - width.min(10_000)) as u32;
+    let mut results: Vec<u32> = (0..length).map(|_| base + prng.below(width) as u32).collect();
+    if length > 0 && prng.once_in(5) {
+        let place = prng.below(length);
+        results[place] = prng.pick(&[0, 9_999, 10_000, 10_001, 65_536, u32::MAX]);
+    }
+    let ends = (results.iter().min(), results.iter().max());
+    let range = if let (Some(least), Some(most)) = ends { most - least } else { 0 };
+    let tolerated =
+        prng.pick(&[range.saturating_sub(1), range, range, range.saturating_add(1), 0, 10_000, u32::MAX]);
+    (results, tolerated)
+}
+
+fn every(firsts: std::ops::Range<u32>, seconds: std::ops::Range<u32>) -> Vec<(u32, u32)> {
+    firsts.flat_map(|first| seconds.clone().map(move |second| (first, second))).collect()
+}
+
+/// Every two of the ends, and each end with any other number.
+fn ends(prng: &mut Prng) -> Vec<(u32, u32)> {
+    let mut pairs: Vec<(u32, u32)> =
+        ENDS.iter().flat_map(|&first| ENDS.iter().map(move |&second| (first, second))).collect();
+    for &end in &ENDS {
+        for _ in 0..50 {
+            let other = prng.draw() as u32 >> prng.below(32);
+            pairs.extend([(end, other), (other, end)]);
+        }
+    }
+    pairs
+}

@@ -1,0 +1,84 @@
+//! The proved library, target/staticlib/libhost.a, behind safe wrappers; host/gelvorin.h says what
+//! each function answers.
+//!
+//! None of them asks anything of its caller but that a pointer and the length behind it are those of
+//! a slice, which the wrappers see to.
+
+use crate::subject::Subject;
+
+/// What the library adds to a refusal's number.
+const REFUSED: u64 = 1 << 32;
+
+unsafe extern "C" {
+    safe fn gelvorin_samples(containers: u32, kilograms: u32) -> u64;
+    safe fn gelvorin_label(labelled: u32, found: u32) -> u64;
+    safe fn gelvorin_pair(first: u32, second: u32) -> u64;
+    fn gelvorin_mixing(results: *const u32, count: usize, tolerated: u32) -> u64;
+}
+
+#[cfg(feature = "judge")]
+unsafe extern "C" {
+    fn gelvorin_judge(sheet: *const u8, sheet_len: usize, buf: *mut u8, buf_len: usize) -> u64;
+}
+
+#[cfg(feature = "rewrite")]
+unsafe extern "C" {
+    fn gelvorin_rewrite(sheet: *const u8, sheet_len: usize, buf: *mut u8, buf_len: usize) -> u64;
+}
+
+#[cfg(feature = "calls")]
+unsafe extern "C" {
+    fn gelvorin_calls(calls: *const u8, calls_len: usize, buf: *mut u8, buf_len: usize) -> u64;
+}
+
+/// The proved library.
+pub struct Ours;
+
+impl Subject for Ours {
+    #[cfg(feature = "judge")]
+    fn judge(&self, sheet: &[u8], buf: &mut [u8]) -> Option<i64> {
+        // SAFETY: both pairs come from slices that live through the call.
+        let answer = unsafe { gelvorin_judge(sheet.as_ptr(), sheet.len(), buf.as_mut_ptr(), buf.len()) };
+        Some(signed(answer))
+    }
+
+    #[cfg(feature = "rewrite")]
+    fn rewrite(&self, sheet: &[u8], buf: &mut [u8]) -> Option<i64> {
+        // SAFETY: both pairs come from slices that live through the call.
+        let answer = unsafe { gelvorin_rewrite(sheet.as_ptr(), sheet.len(), buf.as_mut_ptr(), buf.len()) };
+        Some(signed(answer))
+    }
+
+    fn samples(&self, containers: u32, kilograms: u32) -> i64 {
+        signed(gelvorin_samples(containers, kilograms))
+    }
+
+    fn label(&self, labelled: u32, found: u32) -> i64 {
+        signed(gelvorin_label(labelled, found))
+    }
+
+    fn pair(&self, first: u32, second: u32) -> i64 {
+        signed(gelvorin_pair(first, second))
+    }
+
+    fn mixing(&self, results: &[u32], tolerated: u32) -> i64 {
+        // SAFETY: the pair comes from a slice that lives through the call.
+        signed(unsafe { gelvorin_mixing(results.as_ptr(), results.len(), tolerated) })
+    }
+
+    #[cfg(feature = "calls")]
+    fn calls(&self, list: &[u8], buf: &mut [u8]) -> Option<i64> {
+        // SAFETY: both pairs come from slices that live through the call.
+        let answer = unsafe { gelvorin_calls(list.as_ptr(), list.len(), buf.as_mut_ptr(), buf.len()) };
+        Some(signed(answer))
+    }
+}
+
+/// The library's answer with a refusal as minus its number. A number that is neither stays out of the
+/// way of both.
+fn signed(answer: u64) -> i64 {
+    match answer.checked_sub(REFUSED) {
+        None => answer as i64,
+        Some(number) => i64::try_from(number).map_or(i64::MIN, |number| -number),
+    }
+}

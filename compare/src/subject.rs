@@ -1,0 +1,75 @@
+//! What is compared: the calls that a host program can make. The answer is a length, a number or a
+//! verdict (1 and 0), or minus the refusal's number.
+
+use crate::refusal::Refusal;
+use crate::{calls, mixing, sampling, sheet, tolerance};
+
+pub trait Subject {
+    /// What lotreport prints for a sheet; none where the subject has no such call.
+    fn judge(&self, _sheet: &[u8], _buf: &mut [u8]) -> Option<i64> {
+        None
+    }
+
+    /// The sheet written back; none where the subject has no such call.
+    fn rewrite(&self, _sheet: &[u8], _buf: &mut [u8]) -> Option<i64> {
+        None
+    }
+
+    /// A list of calls on two tallies; none where the subject has no such call.
+    fn calls(&self, _list: &[u8], _buf: &mut [u8]) -> Option<i64> {
+        None
+    }
+
+    fn samples(&self, containers: u32, kilograms: u32) -> i64;
+    fn label(&self, labelled: u32, found: u32) -> i64;
+    fn pair(&self, first: u32, second: u32) -> i64;
+    fn mixing(&self, results: &[u32], tolerated: u32) -> i64;
+}
+
+/// The implementation of this crate.
+pub struct Independent;
+
+impl Subject for Independent {
+    fn judge(&self, sheet: &[u8], buf: &mut [u8]) -> Option<i64> {
+        Some(length(sheet::judge(sheet, buf)))
+    }
+
+    fn rewrite(&self, sheet: &[u8], buf: &mut [u8]) -> Option<i64> {
+        Some(length(sheet::rewrite(sheet, buf)))
+    }
+
+    fn samples(&self, containers: u32, kilograms: u32) -> i64 {
+        match sampling::samples(containers, kilograms) {
+            Ok(number) => number as i64,
+            Err(refusal) => refused(refusal),
+        }
+    }
+
+    fn label(&self, labelled: u32, found: u32) -> i64 {
+        verdict(tolerance::label(labelled, found))
+    }
+
+    fn pair(&self, first: u32, second: u32) -> i64 {
+        verdict(tolerance::pair(first, second))
+    }
+
+    fn mixing(&self, results: &[u32], tolerated: u32) -> i64 {
+        verdict(mixing::mixable(results, tolerated))
+    }
+
+    fn calls(&self, list: &[u8], buf: &mut [u8]) -> Option<i64> {
+        Some(calls::run(list, buf) as i64)
+    }
+}
+
+fn length(answer: Result<usize, Refusal>) -> i64 {
+    answer.map_or_else(refused, |length| length as i64)
+}
+
+fn verdict(answer: Result<bool, Refusal>) -> i64 {
+    answer.map_or_else(refused, i64::from)
+}
+
+fn refused(refusal: Refusal) -> i64 {
+    -i64::from(refusal.number())
+}

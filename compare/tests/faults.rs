@@ -1,0 +1,330 @@
+//! The comparison itself is tried: programs with a fault that a lazy programmer might leave in are
+//! each found by it, and the made sheets and lists reach what they are made for.
+
+use compare::comparison::{self, Comparison};
+use compare::generate::plan::Plan;
+use compare::generate::sheets::{self, KINDS};
+use compare::prng::Prng;
+use compare::sheet::{self, END};
+use compare::subject::{Independent, Subject};
+use compare::{buffer, report};
+
+/// The independent implementation with one call changed.
+#[derive(Clone, Copy)]
+enum Fault {
+    /// Another text for a sheet.
+    Text(fn(&[u8]) -> String),
+    /// Another way with the buffer.
+    Judge(fn(&[u8], &mut [u8]) -> i64),
+    Rewrite(fn(&[u8], &mut [u8]) -> i64),
+    Samples(fn(u32, u32) -> i64),
+    Label(fn(u32, u32) -> i64),
+    Pair(fn(u32, u32) -> i64),
+    Mixing(fn(&[u32], u32) -> i64),
+    Calls(fn(&[u8], &mut [u8]) -> i64),
+}
+
+impl Subject for Fault {
+    fn judge(&self, sheet: &[u8], buf: &mut [u8]) -> Option<i64> {
+        Some(match self {
+            Self::Text(text) => buffer::lay(text(sheet).as_bytes(), buf).map_or(-16, |length| length as i64),
+            Self::Judge(judge) => judge(sheet, buf),
+            _ => judge(sheet, buf),
+        })
+    }
+
+    fn rewrite(&self, sheet: &[u8], buf: &mut [u8]) -> Option<i64> {
+        Some(if let Self::Rewrite(rewrite) = self { rewrite(sheet, buf) } else { rewrite(sheet, buf) })
+    }
+
+    fn samples(&self, containers: u32, kilograms: u32) -> i64 {
+        let samples = if let Self::Samples(samples) = self { *samples } else { samples };
+        samples(containers, kilograms)
+    }
+
+    fn label(&self, labelled: u32, found: u32) -> i64 {
+        let label = if let Self::Label(label) = self { *label } else { label };
+        label(labelled, found)
+    }
+
+    fn pair(&self, first: u32, second: u32) -> i64 {
+        let pair = if let Self::Pair(pair) = self { *pair } else { pair };
+        pair(first, second)
+    }
+
+    fn mixing(&self, results: &[u32], tolerated: u32) -> i64 {
+        let mixing = if let Self::Mixing(mixing) = self { *mixing } else { mixing };
+        mixing(results, tolerated)
+    }
+
+    fn calls(&self, list: &[u8], buf: &mut [u8]) -> Option<i64> {
+        Some(if let Self::Calls(calls) = self { calls(list, buf) } else { calls(list, buf) })
+    }
+}
+
+fn judge(sheet: &[u8], buf: &mut [u8]) -> i64 {
+    Independent.judge(sheet, buf).expect("it has the call")
+}
+
+fn rewrite(sheet: &[u8], buf: &mut [u8]) -> i64 {
+    Independent.rewrite(sheet, buf).expect("it has the call")
+}
+
+fn calls(list: &[u8], buf: &mut [u8]) -> i64 {
+    Independent.calls(list, buf).expect("it has the call")
+}
+
+fn samples(containers: u32, kilograms: u32) -> i64 {
+    Independent.samples(containers, kilograms)
+}
+
+fn label(labelled: u32, found: u32) -> i64 {
+    Independent.label(labelled, found)
+}
+
+fn pair(first: u32, second: u32) -> i64 {
+    Independent.pair(first, second)
+}
+
+fn mixing(results: &[u32], tolerated: u32) -> i64 {
+    Independent.mixing(results, tolerated)
+}
+
+/// The differences that a comparison of some thousand inputs finds.
+fn differences(fault: &Fault) -> usize {
+    let mut found = Comparison::default();
+    match fault {
+        Fault::Text(_) | Fault::Judge(_) | Fault::Rewrite(_) => {
+            comparison::sheets(7, 8_000, &Independent, fault, &mut found);
+        }
+        Fault::Samples(_) | Fault::Label(_) | Fault::Pair(_) | Fault::Mixing(_) => {
+            comparison::beside(7, 2_000, &Independent, fault, &mut found);
+        }
+        Fault::Calls(_) => comparison::lists(7, 100, &Independent, fault, &mut found),
+    }
+    assert!(!found.compared.is_empty());
+    found.differences
+}
+
+/// The text with the lines changed one by one.
+fn lines(sheet: &[u8], change: impl Fn(&[&str]) -> Option<String>) -> String {
+    let text = sheet::printed(sheet);
+    let changed: Vec<String> = text
+        .lines()
+        .map(|line| change(&line.split(' ').collect::<Vec<_>>()).unwrap_or_else(|| line.into()) + "\n")
+        .collect();
+    changed.concat()
+}
+
+fn by_printed_value(name: &str, words: &[&str]) -> Option<String> {
+    let &[first, value, limit, _] = words else { return None };
+    let (left, right): (f64, f64) = (value.parse().ok()?, limit.parse().ok()?);
+    (first == name).then(|| format!("{name} {value} {limit} {}", if left > right { "over" } else { "kept" }))
+}
+
+const FAULTS: [(&str, Fault); 21] = [
+    ("lower case taken", Fault::Text(|sheet| sheet::printed(&sheet.to_ascii_uppercase()))),
+    (
+        "byte 0D passed over",
+        Fault::Text(|sheet| {
+            sheet::printed(&sheet.iter().copied().filter(|&byte| byte != b'\r').collect::<Vec<_>>())
+        }),
+    ),
+    (
+        "missing last end byte forgiven",
+        Fault::Text(|sheet| match sheet.last() {
+            Some(&END) | None => sheet::printed(sheet),
+            _ => sheet::printed(&[sheet, &[END]].concat()),
+        }),
+    ),
+    (
+        "what stands behind 06 not read",
+        Fault::Text(|sheet| {
+            let lines = sheet.split_inclusive(|&byte| byte == END);
+            let mut over = false;
+            let read = lines.take_while(|line| !std::mem::replace(&mut over, line.starts_with(b"06")));
+            sheet::printed(&read.collect::<Vec<_>>().concat())
+        }),
+    ),
+    ("judged by the printed H", Fault::Text(|sheet| lines(sheet, |words| by_printed_value("H", words)))),
+    (
+        "H over where it is the critical value",
+        Fault::Text(|sheet| {
+            lines(sheet, |words| match words {
+                ["H", value, limit, "kept"] if value == limit => Some(format!("H {value} {limit} over")),
+                _ => None,
+            })
+        }),
+    ),
+    (
+        "R over where it is the tolerated one",
+        Fault::Text(|sheet| {
+            lines(sheet, |words| match words {
+                ["R", value, limit, "kept"] if value == limit => Some(format!("R {value} {limit} over")),
+                _ => None,
+            })
+        }),
+    ),
+    (
+        "99.80 taken for void",
+        Fault::Text(|sheet| {
+            let text = sheet::printed(sheet);
+            let head: Vec<&str> = text.lines().take(2).collect();
+            match head[..] {
+                [n, "MEAN 99.80"] => format!("{n}\nMEAN 99.80\nH void\nR void\nLOT void\n"),
+                _ => text,
+            }
+        }),
+    ),
+    (
+        "15 told on the line behind 06",
+        Fault::Text(|sheet| {
+            lines(sheet, |words| match words {
+                ["REFUSED", "15", line] => Some(format!("REFUSED 15 {}", line.parse::<usize>().ok()? + 1)),
+                _ => None,
+            })
+        }),
+    ),
+    (
+        "5 told for a 97th row that is bad",
+        Fault::Text(|sheet| {
+            let text = sheet::printed(sheet);
+            let rows = sheet.split(|&byte| byte == END).filter(|line| line.starts_with(b"04")).count();
+            if rows > 96 { text.replace("REFUSED 4 ", "REFUSED 5 ") } else { text }
+        }),
+    ),
+    (
+        "a byte behind the text written",
+        Fault::Judge(|sheet, buf| {
+            let answer = judge(sheet, buf);
+            if let Some(behind) = usize::try_from(answer).ok().and_then(|length| buf.get_mut(length)) {
+                *behind = 0;
+            }
+            answer
+        }),
+    ),
+    (
+        "one byte more than the text asked for",
+        Fault::Judge(
+            |sheet, buf| {
+                if buf.len() == sheet::printed(sheet).len() { -16 } else { judge(sheet, buf) }
+            },
+        ),
+    ),
+    (
+        "a short buffer written to",
+        Fault::Judge(|sheet, buf| {
+            let answer = judge(sheet, buf);
+            if answer == -16 && !buf.is_empty() {
+                buf[0] = sheet::printed(sheet).as_bytes()[0];
+            }
+            answer
+        }),
+    ),
+    (
+        "results written in the order they came",
+        Fault::Rewrite(|sheet, buf| {
+            let answer = rewrite(sheet, buf);
+            if answer > 0 {
+                buf[..sheet.len()].copy_from_slice(sheet);
+            }
+            answer
+        }),
+    ),
+    (
+        "16 before the reader's numbers",
+        Fault::Rewrite(|sheet, buf| if buf.is_empty() { -16 } else { rewrite(sheet, buf) }),
+    ),
+    (
+        "Table 2B raised for 16 containers",
+        Fault::Samples(|containers, kilograms| {
+            let answer = samples(containers, kilograms);
+            if containers == 16 && kilograms > 100 { (answer + 15) / 16 * 16 } else { answer }
+        }),
+    ),
+    ("label: less than column B", Fault::Label(|labelled, found| label(labelled, found.saturating_add(1)))),
+    (
+        "pair: average rounded down",
+        Fault::Pair(|first, second| {
+            if (u64::from(first) + u64::from(second)) % 2 == 1 && first.max(second) > 0 {
+                pair(first.max(second) - 1, first.min(second))
+            } else {
+                pair(first, second)
+            }
+        }),
+    ),
+    (
+        "pair: sum in 32 bits",
+        Fault::Pair(
+            |first, second| {
+                if first.checked_add(second).is_none() { 1 } else { pair(first, second) }
+            },
+        ),
+    ),
+    (
+        "mixing: 7 before 17",
+        Fault::Mixing(
+            |results, tolerated| {
+                if results.iter().any(|&x| x > 10_000) { -7 } else { mixing(results, tolerated) }
+            },
+        ),
+    ),
+    (
+        "calls: 13 before 12",
+        Fault::Calls(|list, buf| {
+            let answer = calls(list, buf);
+            if let Some(byte) = buf.iter_mut().find(|byte| **byte == 12) {
+                *byte = 13;
+            }
+            answer
+        }),
+    ),
+];
+
+#[test]
+fn an_implementation_agrees_with_itself() {
+    for same in [Fault::Text(sheet::printed), Fault::Pair(pair), Fault::Calls(calls)] {
+        assert_eq!(differences(&same), 0);
+    }
+}
+
+#[test]
+fn each_fault_is_found() {
+    for (name, fault) in FAULTS {
+        assert!(differences(&fault) > 0, "not found: {name}");
+    }
+}
+
+#[test]
+fn sheets_reach_the_limits_they_are_made_for() {
+    let mut prng = Prng::new(3);
+    let (mut equal, mut half, mut at_limit, mut below_zero) = (0, 0, 0, 0);
+    for _ in 0..4_000 {
+        let plan = if prng.once_in(2) { Plan::exact(&mut prng) } else { Plan::judged(&mut prng, 8) };
+        let tally = plan.tally().expect("a good plan");
+        let held = tally.held().len();
+        let Some(h) = report::exact_h(&tally) else { continue };
+        let critical = tally.card().criticals[held];
+        equal += usize::from(critical.is_some_and(|critical| h.compare(critical).is_eq()));
+        half += usize::from(2 * h.numerator % h.denominator == 0 && h.numerator % h.denominator != 0);
+        below_zero += usize::from(h.numerator < 0);
+        let sum: usize = tally.held().iter().map(|held| usize::from(held.x)).sum();
+        let limits: &[usize] = [&[20, 9_980][..], &[100, 9_900], &[2]][usize::from(plan.lot.attribute)];
+        at_limit += usize::from(limits.iter().any(|limit| limit * held == sum));
+    }
+    for (what, times) in
+        [("equal", equal), ("half", half), ("at a limit", at_limit), ("below zero", below_zero)]
+    {
+        assert!(times >= 20, "{what}: {times}");
+    }
+}
+
+#[test]
+fn every_length_from_none_to_some_thousand_is_made() {
+    let mut prng = Prng::new(4);
+    let lengths: Vec<usize> =
+        (0..16_000).map(|at| sheets::sheet(&mut prng, KINDS[at % KINDS.len()]).len()).collect();
+    assert!(lengths.contains(&0) && lengths.contains(&1));
+    assert!(lengths.iter().any(|&length| length > 5_000));
+    assert!(lengths.contains(&sheet::LONGEST_WRITTEN));
+}
