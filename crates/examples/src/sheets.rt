@@ -36,23 +36,33 @@ fn text_name(group: u8, n: usize) -> [u8; 8] {
     ]
 }
 
+// Whether the first n bytes of a buffer are a text.
+fn begins(buf: &[u8], n: usize, text: &[u8]) -> bool {
+    if n <= buf.len() {
+        return check::same(&buf[..n], text);
+    }
+    false
+}
+
+// Whether a sheet is judged as a text says.
+fn judged_as(sheet: &[u8], expected: &[u8], printed: &mut [u8]) -> bool {
+    let answer = sheet::judge(sheet, printed);
+    match answer {
+        Printed::Length(n) => begins(printed, n, expected),
+        Printed::BufferShort => false,
+    }
+}
+
 // Whether sheet n of a group is judged as its text says. As lotreport does, it reads 4,096 bytes and no more.
 fn agrees(group: u8, n: usize) -> bool {
     let mut sheet = io::buffer();
     let mut expected = io::buffer();
     let mut printed = io::buffer();
-    let s = files::read(&sheet_name(group, n), &mut sheet);
-    let e = files::read(&text_name(group, n), &mut expected);
-    let answer = sheet::judge(&sheet[..s], &mut printed);
-    match answer {
-        Printed::Length(k) => {
-            if k <= 4096 {
-                return check::same(&printed[..k], &expected[..e]);
-            }
-            false
-        }
-        Printed::BufferShort => false,
-    }
+    let name = sheet_name(group, n);
+    let s = files::read(&name, &mut sheet);
+    let text = text_name(group, n);
+    let e = files::read(&text, &mut expected);
+    judged_as(&sheet[..s], &expected[..e], &mut printed)
 }
 
 pub fn group(name: u8, count: usize) -> Tried {
