@@ -6,3 +6,4 @@ pub mod Printed
 pub mod Reporting
 pub mod Theorem
 pub mod Cases
+pub mod EverySheet

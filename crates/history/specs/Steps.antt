@@ -16,6 +16,8 @@ use Rattle.tally.proofs.join.Reads as join-reads
 use Rattle.report.proofs.report.Reads as report-reads
 use Rattle.sheet.specs.declared.Reading.{Reading}
 use Rattle.sheet.proofs.read.Reads as read-reads
+use Rattle.sheet.proofs.judge.Reads as judge-reads
+use Rattle.rules.specs.declared.Printed.{Printed}
 
 abbrev pub FreshStep : Tally → Type 0
 FreshStep t = fresh-reads.Learnt tt tt t tt
@@ -39,3 +41,7 @@ ReportStep κ t before r after = report-reads.Learnt (κ, tt) (t, (before, tt)) 
 -- a sheet that is read
 abbrev pub ReadStep : Lft → RefT (List ℕ) → Reading → Type 0
 ReadStep κ sheet r = read-reads.Learnt (κ, tt) (sheet, tt) r (sheet, tt)
+
+-- a sheet that is judged into a buffer
+abbrev pub JudgeStep : Lft → Lft → RefT (List ℕ) → RefT (List ℕ) → Printed → RefT (List ℕ) → Type 0
+JudgeStep κ₁ κ₂ sheet before r after = judge-reads.Learnt (κ₁, (κ₂, tt)) (sheet, (before, tt)) r (sheet, (after, tt))
