@@ -129,7 +129,7 @@ fn spoil_criticals(prng: &mut Prng, plan: &mut Plan) {
         _ if !plan.criticals.is_empty() => {
             let place = prng.below(plan.criticals.len());
             let n = plan.criticals[place].0;
-            plan.criticals.insert(place + 1, (n - u16::from(prng.once_in(2)), value));
+            plan.criticals.insert(place + 1, (n.saturating_sub(prng.below(2) as u16), value));
         }
         _ => plan.criticals.push((prng.near(&[5, 60]), value)),
     }
@@ -145,7 +145,7 @@ fn spoil_rows(prng: &mut Prng, plan: &mut Plan) {
     match prng.below(5) {
         0 => row.lowest = prng.pick(&[0, 4, 5]),
         1 => row.highest = prng.pick(&[60, 61, 255]),
-        2 => row.lowest = row.highest + 1,
+        2 => row.lowest = row.highest.saturating_add(1),
         3 => row.mean_bound = prng.pick(&[HIGHEST_X, HIGHEST_X + 1, 65_535]),
         _ => *row = Row { lowest: 60, highest: 5, ..*row },
     }
