@@ -4,6 +4,9 @@ ghost use Rattle.rules.specs.Numbers.{numberOf, printedAnswer};
 ghost use Rattle.rules.specs.Printing.{printOn};
 ghost use Rattle.rules.specs.Reading.{refused as Reading·refused, readOf};
 ghost use Rattle.sheet.specs.Promise.{Tells};
+use rules::CRITICALS;
+use rules::MOST_HELD;
+use rules::MOST_ROWS;
 use rules::Printed;
 use rules::Refusal;
 use rules::Reported;
@@ -38,6 +41,13 @@ fn refused(e: Refusal, line: usize) -> Reading
 pub fn read(sheet: &[u8]) -> Reading
     ensures { λ r. ⌜ Tells (readOf (now (sheet .entry))) r ⌝ }
 {
+    let mut critical: [u32; CRITICALS] = [0; CRITICALS];
+    let mut lowest: [u16; MOST_ROWS] = [0; MOST_ROWS];
+    let mut highest: [u16; MOST_ROWS] = [0; MOST_ROWS];
+    let mut bound: [u16; MOST_ROWS] = [0; MOST_ROWS];
+    let mut tolerated: [u16; MOST_ROWS] = [0; MOST_ROWS];
+    let mut containers: [u16; MOST_HELD] = [0; MOST_HELD];
+    let mut results: [u16; MOST_HELD] = [0; MOST_HELD];
     let mut p = steps::start();
     let mut line: usize = 1;
     let mut at: usize = 0;
@@ -47,7 +57,17 @@ pub fn read(sheet: &[u8]) -> Reading
         if sheet.len() <= end {
             return refused(Refusal::BadLine, line);
         }
-        let s = steps::step(p, digits);
+        let s = steps::step(
+            p,
+            &mut critical,
+            &mut lowest,
+            &mut highest,
+            &mut bound,
+            &mut tolerated,
+            &mut containers,
+            &mut results,
+            digits,
+        );
         let e = s.refusal;
         if e.number() != 0 {
             return refused(e, line);
@@ -58,10 +78,17 @@ pub fn read(sheet: &[u8]) -> Reading
         at = end + 1;
     }
     if p.before == 6 {
-        let t = p.tally;
+        let lot = p.lot;
+        let card = steps::card_of(p, &critical, &lowest, &highest, &bound, &tolerated);
         return Reading {
             answer: Answer::Accepted(line - 1),
-            tally: t,
+            tally: Tally {
+                lot: lot,
+                card: card,
+                containers: containers,
+                results: results,
+                held: p.held,
+            },
         };
     }
     refused(Refusal::OutOfTurn, line)

@@ -1,11 +1,13 @@
 // A tally (document 01's term): a lot, a card and the results that are held, as a value that goes in and comes back.
 ghost use mathlib.Core.Path.{_≡_};
-ghost use Prim.Native.Nat.{_+_, _≤_, _<_};
+ghost use mathlib.Core.List.{List};
+ghost use Prim.Native.Nat.{ℕ, _+_, _≤_, _<_};
 ghost use Rattle.rules.specs.Places.{isHeld};
 ghost use Rattle.rules.specs.Ledger.{enterNumber, joinNumber, enterOn, withdrawOn, joinOn};
-ghost use Rattle.tally.specs.View.{stored, view};
+ghost use Rattle.rules.specs.declared.Card.{Card};
+ghost use Rattle.tally.specs.View.{stored, tallyOf, view};
 ghost use Rattle.tally.specs.Raw.{addAll, meets};
-ghost use Rattle.tally.specs.Calls.{FoundAt, Checked, Sound, Answers, Opened, freshTally};
+ghost use Rattle.tally.specs.Calls.{FoundAt, Checked, Sound, Opens, Enters, Answers, Opened, freshTally};
 use rules::CRITICALS;
 use rules::Card;
 use rules::Lot;
@@ -58,10 +60,17 @@ pub fn fresh() -> Tally
     }
 }
 
+// What an open is refused with.
+pub fn open_refusal(lot: Lot, card: Card) -> Refusal
+    ensures { λ r. ⌜ Opens lot card r ⌝ }
+{
+    cards::open_refusal(lot, card)
+}
+
 pub fn open(t: Tally, lot: Lot, card: Card) -> Outcome
     ensures { λ r. ⌜ Opened t lot card r ⌝ }
 {
-    let refusal = cards::open_refusal(lot, card);
+    let refusal = open_refusal(lot, card);
     if refusal.number() == 0 {
         return Outcome {
             refusal: refusal,
@@ -96,47 +105,66 @@ fn place_of(l: &[u16; MOST_HELD], n: usize, k: u16) -> usize
 }
 
 // Whether one of the first n places is of container k.
-fn is_held(t: Tally, n: usize, k: u16) -> bool
+fn is_held(l: &[u16; MOST_HELD], n: usize, k: u16) -> bool
     requires { ⌜ n ≤ 60 ⌝ }
-    ensures { λ r. ⌜ r ≡ isHeld (stored (t .containers) (t .results) n k) ⌝ }
+    ensures { λ r. ⌜ ((vs : List ℕ) → r ≡ isHeld (stored (now (l .entry)) vs n k)) ⌝ }
 {
-    let keys = t.containers;
-    place_of(&keys, n, k) < n
+    place_of(l, n, k) < n
 }
 
-// What an enter is refused with.
-fn enter_refusal(t: Tally, container: u16, x: u16) -> Refusal
-    ensures { λ r. ⌜ Checked (Sound t) (enterNumber (view t) container x) (t .held < 60) r ⌝ }
+// What an enter is refused with, where the first `held` of these containers of the lot are held.
+fn enter_refusal(lot: Lot, l: &[u16; MOST_HELD], held: usize, container: u16, x: u16) -> Refusal
+    ensures { λ r. ⌜ ((c : Card) (vs : List ℕ) → Checked (Sound (tallyOf lot c (now (l .entry)) vs held)) (enterNumber (view (tallyOf lot c (now (l .entry)) vs held)) container x) (held < 60) r) ⌝ }
 {
-    let n = t.held;
     if container == 0 {
         return Refusal::NoSuchContainer;
     }
-    if t.lot.containers < container {
+    if lot.containers < container {
         return Refusal::NoSuchContainer;
     }
     if 10000 < x {
         return Refusal::ResultTooHigh;
     }
-    if is_held(t, checks::least(n, MOST_HELD), container) {
+    if is_held(l, checks::least(held, MOST_HELD), container) {
         return Refusal::AlreadyHeld;
     }
-    if MOST_HELD <= n {
+    if MOST_HELD <= held {
         return Refusal::Full;
     }
     Refusal::Accepted
 }
 
+// An enter on the lists of a tally that are lent: where it is accepted, the result stands behind the `held` others.
+pub fn enter_in(
+    lot: Lot,
+    containers: &mut [u16; MOST_HELD],
+    results: &mut [u16; MOST_HELD],
+    held: usize,
+    container: u16,
+    x: u16,
+) -> Refusal
+    ensures { λ r. ⌜ Enters lot (now (containers .entry)) (now (results .entry)) held container x r (now (containers .exit)) (now (results .exit)) ⌝ }
+{
+    let refusal = enter_refusal(lot, containers, held, container, x);
+    if refusal.number() == 0 {
+        containers[held] = container;
+        results[held] = x;
+    }
+    refusal
+}
+
 pub fn enter(t: Tally, container: u16, x: u16) -> Outcome
     ensures { λ r. ⌜ Answers (Sound t) t (enterOn (view t) container x) r ⌝ }
 {
-    let refusal = enter_refusal(t, container, x);
+    let lot = t.lot;
+    let mut containers = t.containers;
+    let mut results = t.results;
+    let refusal = enter_in(lot, &mut containers, &mut results, t.held, container, x);
     if refusal.number() == 0 {
-        let at = t.held;
         let mut next = t;
-        next.containers[at] = container;
-        next.results[at] = x;
-        next.held = at + 1;
+        next.containers = containers;
+        next.results = results;
+        next.held = t.held + 1;
         return Outcome {
             refusal: refusal,
             tally: next,
@@ -172,15 +200,15 @@ pub fn withdraw(t: Tally, container: u16) -> Outcome
     }
 }
 
-// Whether one of the first m containers of o is among the first n of t.
-fn meet(t: Tally, n: usize, o: Tally, m: usize) -> bool
+// Whether one of the first m containers of o is among the first n of l.
+fn meet(l: &[u16; MOST_HELD], n: usize, o: &[u16; MOST_HELD], m: usize) -> bool
     requires { ⌜ (n ≤ 60) × (m ≤ 60) ⌝ }
-    ensures { λ r. ⌜ r ≡ meets (stored (t .containers) (t .results) n) (o .containers) m ⌝ }
+    ensures { λ r. ⌜ ((vs : List ℕ) → r ≡ meets (stored (now (l .entry)) vs n) (now (o .entry)) m) ⌝ }
 {
     let mut found = false;
     let mut j = 0;
     while j < m {
-        found = checks::either(found, is_held(t, n, o.containers[j]));
+        found = checks::either(found, is_held(l, n, o[j]));
         j += 1;
     }
     found
@@ -203,7 +231,9 @@ fn join_refusal(t: Tally, other: Tally) -> Refusal
     let tc = t.card;
     let oc = other.card;
     if checks::both(cards::same_lot(tl, ol), cards::same_card(tc, oc)) {
-        if meet(t, n, other, m) {
+        let held = t.containers;
+        let more = other.containers;
+        if meet(&held, n, &more, m) {
             return Refusal::SharedContainer;
         }
         if MOST_HELD < n + m {

@@ -4,25 +4,21 @@ use borrow.Author.Needs.{needs}
 use Rattle.sheet.proofs.steps.end_step.Statement.{statement}
 use Rattle.sheet.proofs.steps.end_step.Tie as tie
 use Rattle.rules.proofs.Refusal.number.Reads as number-reads
-use Rattle.sheet.proofs.steps.opened.Reads as opened-reads
-
-opened-requires : tie.Need-opened-requires
-opened-requires c κs = search needs
 
 number-requires : tie.Need-number-requires
 number-requires c κs = search needs
 
 returns : tie.Need-returns
 returns c =
-    end-unopened _ (c .before .before .before .pre) _ (c .before .before .opened .ensures) _ (c .before .number .ensures) _ (c .if1 .taken)
+    λ l b s. end-unopened _ _ s _ b _ (c .before .number .ensures) _ (c .if1 .taken)
 
 returns-2 : tie.Need-returns-2
 returns-2 c =
-    end-reached _ (c .before .before .before .before .before .before .pre) _ (c .before .before .before .before .before .opened .ensures) _ (c .before .before .before .before .number .ensures) (c .before .before .before .if1 .left) _ (c .if2 .taken)
+    λ l b s. end-reached _ _ s _ b _ (c .before .before .before .number .ensures) (c .before .before .if1 .left) _ (c .if2 .taken)
 
 returns-3 : tie.Need-returns-3
 returns-3 c =
-    end-miscounted _ (c .before .before .before .before .before .before .pre) _ (c .before .before .before .before .before .opened .ensures) _ (c .before .before .before .before .number .ensures) (c .before .before .before .if1 .left) _ (c .if2 .left)
+    λ l b s. end-miscounted _ _ s _ b _ (c .before .before .before .number .ensures) (c .before .before .if1 .left) _ (c .if2 .left)
 
 pub end-step-spec : {M : Type 1} → statement M
-end-step-spec = tie.close (tie.spec opened-requires number-requires returns returns-2 returns-3)
+end-step-spec = tie.close (tie.spec number-requires returns returns-2 returns-3)

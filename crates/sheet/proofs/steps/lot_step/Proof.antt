@@ -1,6 +1,6 @@
 -- `sheet::steps::lot_step` meets its contract.
 use mathlib.Core.Path.{refl, sym, _∙_}
-use borrow.Author.Tests.{eq-eqb, ne-eqb, eqb-false}
+use borrow.Author.Tests.{eq-eqb, ne-eqb, eqb-false, lt-ltb}
 use native.Mathlib.Omega.{arith}
 use Rattle.rules.specs.Reading.{lotStep}
 use Rattle.sheet.proofs.Taking.{stopped, went}
@@ -12,7 +12,7 @@ use Rattle.rules.proofs.cards.lot_good.Reads as lot-good-reads
 returns : tie.Need-returns
 unfolding lotStep
 returns c =
-    simp (ne-eqb _ _ (c .if1 .taken)) (stopped _ _ 2 (c .before .before .pre) refl (eqb-false 2 0 refl))
+    λ l s. simp (ne-eqb _ _ (c .if1 .taken)) (stopped _ _ _ 2 s refl (eqb-false 2 0 refl))
 
 lot-good-requires : tie.Need-lot-good-requires
 lot-good-requires c κs = search needs
@@ -20,12 +20,12 @@ lot-good-requires c κs = search needs
 returns-2 : tie.Need-returns-2
 unfolding lotStep
 returns-2 c =
-    simp (eq-eqb _ _ (c .before .before .if1 .left), sym (c .before .lot-good .ensures) ∙ c .if2 .taken) (went _ _ _ (c .before .before .before .before .pre) (omega arith) refl refl)
+    λ l s. let b = c .before .before .if1 .left in simp (eq-eqb _ _ b, sym (c .before .lot-good .ensures) ∙ c .if2 .taken) (went _ _ l l s (omega (arith, b)) (omega arith) refl refl refl _ (rw b refl))
 
 returns-3 : tie.Need-returns-3
 unfolding lotStep
 returns-3 c =
-    simp (eq-eqb _ _ (c .before .before .if1 .left), sym (c .before .lot-good .ensures) ∙ c .if2 .left) (stopped _ _ 3 (c .before .before .before .before .pre) refl (eqb-false 3 0 refl))
+    λ l s. simp (eq-eqb _ _ (c .before .before .if1 .left), sym (c .before .lot-good .ensures) ∙ c .if2 .left) (stopped _ _ _ 3 s refl (eqb-false 3 0 refl))
 
 pub lot-step-spec : {M : Type 1} → statement M
 lot-step-spec = tie.close (tie.spec returns lot-good-requires returns-2 returns-3)

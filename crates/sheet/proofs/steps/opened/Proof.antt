@@ -3,26 +3,27 @@ use Rattle.sheet.proofs.Taking.{began-is, began-not, began-opens}
 use borrow.Author.Needs.{needs}
 use Rattle.sheet.proofs.steps.opened.Statement.{statement}
 use Rattle.sheet.proofs.steps.opened.Tie as tie
-use Rattle.tally.proofs.fresh.Reads as fresh-reads
-use Rattle.tally.proofs.open.Reads as open-reads
+use Rattle.sheet.proofs.steps.card_of.Reads as card-of-reads
+use Rattle.tally.proofs.open_refusal.Reads as open-refusal-reads
 
-fresh-requires : tie.Need-fresh-requires
-fresh-requires c κs = search needs
+card-of-requires : tie.Need-card-of-requires
+card-of-requires c κs = search needs
 
-open-requires : tie.Need-open-requires
-open-requires c κs = search needs
+open-refusal-requires : tie.Need-open-refusal-requires
+open-refusal-requires c κs = search needs
 
 returns : tie.Need-returns
 returns c =
-    began-opens (c .before .before .before .before .before .before .before .before .before .before .args .p) (c .before .before .before .before .before .before .before .before .before .before .pre) _ _ (c .before .before .before .before .before .before .if1 .taken) (c .before .before .before .before .if2 .taken) (c .before .fresh .ensures) (c .«open» .ensures)
+    λ ks vs. began-opens (c .before .before .before .before .before .before .before .before .args .p) _ (c .before .before .before .before .before .if1 .taken) _ _ (c .before .before .before .if2 .taken) (c .before .card-of .ensures ks vs) (c .open-refusal .ensures)
 
 returns-2 : tie.Need-returns-2
 returns-2 c =
-    began-is (c .before .before .before .before .before .before .args .p) (c .before .before .before .before .before .before .pre) (c .before .before .if1 .taken) (c .if2 .left)
+    λ ks vs. began-is (c .before .before .before .before .before .args .p) _ (c .before .before .if1 .taken) (c .if2 .left)
 
 returns-3 : tie.Need-returns-3
 returns-3 c =
-    began-not (c .before .before .before .before .args .p) (c .before .before .before .before .pre) (c .if1 .left)
+    λ ks vs. began-not (c .before .before .before .args .p) _ (c .if1 .left)
 
 pub opened-spec : {M : Type 1} → statement M
-opened-spec = tie.close (tie.spec fresh-requires open-requires returns returns-2 returns-3)
+opened-spec =
+    tie.close (tie.spec card-of-requires open-refusal-requires returns returns-2 returns-3)

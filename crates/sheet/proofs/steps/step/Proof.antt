@@ -1,6 +1,8 @@
 -- `sheet::steps::step` meets its contract.
 use mathlib.Core.Path.{refl, sym, _∙_}
+use mathlib.Core.List.{[]}
 use borrow.Author.Tests.{eqb-false}
+use Rattle.sheet.specs.Promise.{listsOf}
 use Rattle.sheet.proofs.Taking.{stopped, step-as}
 use borrow.Author.Needs.{needs}
 use Rattle.sheet.proofs.steps.step.Statement.{statement}
@@ -10,6 +12,7 @@ use Rattle.sheet.proofs.steps.card_step.Reads as card-step-reads
 use Rattle.sheet.proofs.steps.critical_step.Reads as critical-step-reads
 use Rattle.sheet.proofs.steps.end_step.Reads as end-step-reads
 use Rattle.sheet.proofs.steps.lot_step.Reads as lot-step-reads
+use Rattle.sheet.proofs.steps.opened.Reads as opened-reads
 use Rattle.sheet.proofs.steps.range_step.Reads as range-step-reads
 use Rattle.sheet.proofs.steps.result_step.Reads as result-step-reads
 
@@ -46,42 +49,48 @@ range-step-requires c κs = search needs
 enum-known-f-5 : tie.Need-enum-known-f-5
 enum-known-f-5 c = search needs
 
+opened-requires : tie.Need-opened-requires
+opened-requires c κs = search needs
+
 result-step-requires : tie.Need-result-step-requires
 result-step-requires c κs = search needs
 
 enum-known-f-6 : tie.Need-enum-known-f-6
 enum-known-f-6 c = search needs
 
+opened-requires-2 : tie.Need-opened-requires-2
+opened-requires-2 c κs = search needs
+
 end-step-requires : tie.Need-end-step-requires
 end-step-requires c κs = search needs
 
 returns : tie.Need-returns
 returns c =
-    step-as _ _ _ _ (sym (c .before .before .frame-of .ensures) ∙ c .enum-told .given .1) (stopped _ _ 1 (c .before .before .before .before .pre) refl (eqb-false 1 0 refl))
+    λ s. step-as _ _ _ _ _ (sym (c .before .before .frame-of .ensures) ∙ c .enum-told .given .1) (stopped _ _ _ 1 s refl (eqb-false 1 0 refl))
 
 returns-2 : tie.Need-returns-2
 returns-2 c =
-    step-as _ _ _ _ (sym (c .before .before .before .before .frame-of .ensures) ∙ c .before .before .f .given .1) (c .lot-step .ensures)
+    λ s. step-as _ _ _ _ _ (sym (c .before .before .before .before .frame-of .ensures) ∙ c .before .before .f .given .1) (c .lot-step .ensures _ s)
 
 returns-3 : tie.Need-returns-3
 returns-3 c =
-    step-as _ _ _ _ (sym (c .before .before .before .before .frame-of .ensures) ∙ c .before .before .f2 .given .1) (c .card-step .ensures)
+    λ s. step-as _ _ _ _ _ (sym (c .before .before .before .before .frame-of .ensures) ∙ c .before .before .f2 .given .1) (c .card-step .ensures _ s)
 
 returns-4 : tie.Need-returns-4
 returns-4 c =
-    step-as _ _ _ _ (sym (c .before .before .before .before .frame-of .ensures) ∙ c .before .before .f3 .given .1) (c .critical-step .ensures)
+    λ s. step-as _ _ _ _ _ (sym (c .before .before .before .before .before .frame-of .ensures) ∙ c .before .before .before .f3 .given .1) (c .critical-step .ensures (listsOf [] _ _ _ _ _ _) s)
 
 returns-5 : tie.Need-returns-5
 returns-5 c =
-    step-as _ _ _ _ (sym (c .before .before .before .before .frame-of .ensures) ∙ c .before .before .f4 .given .1) (c .range-step .ensures)
+    λ s. step-as _ _ _ _ _ (sym (c .before .before .before .before .before .before .before .before .frame-of .ensures) ∙ c .before .before .before .before .before .before .f4 .given .1) (c .range-step .ensures (listsOf _ [] [] [] [] _ _) s)
 
 returns-6 : tie.Need-returns-6
 returns-6 c =
-    step-as _ _ _ _ (sym (c .before .before .before .before .frame-of .ensures) ∙ c .before .before .f5 .given .1) (c .result-step .ensures)
+    λ s. step-as _ _ _ _ _ (sym (c .before .before .before .before .before .before .before .before .before .before .before .before .frame-of .ensures) ∙ c .before .before .before .before .before .before .before .before .before .before .f5 .given .1) (c .result-step .ensures (listsOf _ _ _ _ _ [] []) (c .before .before .before .opened .ensures _ _) s)
 
 returns-7 : tie.Need-returns-7
 returns-7 c =
-    step-as _ _ _ _ (sym (c .before .before .before .before .frame-of .ensures) ∙ c .before .before .f6 .given .1) (c .end-step .ensures)
+    λ s. step-as _ _ _ _ _ (sym (c .before .before .before .before .before .before .before .before .before .before .frame-of .ensures) ∙ c .before .before .before .before .before .before .before .before .f6 .given .1) (c .end-step .ensures _ (c .before .opened2 .ensures _ _) s)
 
 pub step-spec : {M : Type 1} → statement M
 step-spec =
@@ -98,8 +107,10 @@ step-spec =
     enum-known-f-4
     range-step-requires
     enum-known-f-5
+    opened-requires
     result-step-requires
     enum-known-f-6
+    opened-requires-2
     end-step-requires
     returns
     returns-2
