@@ -16,15 +16,11 @@ use Rattle.rules.specs.Report.{countLine, meanLine, verdictWord, limitText, aga
 use Rattle.rules.specs.declared.Attribute.{Attribute}
 use Rattle.rules.specs.declared.Attribute.the-variants.{Purity, Germination, Count}
 use Rattle.rules.specs.declared.Card.{Card}
-use Rattle.rules.proofs.TextLaws.{pointed-none, length-decimal, length-pointed}
+use Rattle.rules.proofs.TextLaws.{length-pointed-le}
 use Rattle.report.specs.declared.findings.Findings.{Findings}
 use Rattle.report.specs.Findings.{limitOf, verdictOf, valueLine, valueSize, together, lotText, verdictLine, findingsText, IsH, IsR}
 
 -- ---- how long the pieces and the lines are
-pub length-pointed-le : (k n : ℕ) → length (pointed k n) ≤ 21 + k
-length-pointed-le zero n = rw (pointed-none n) (omega (arith, length-decimal n))
-length-pointed-le (suc k) n = omega (arith, length-pointed (suc k) n (omega arith), length-decimal (n / 10 ^ suc k))
-
 -- of a number that the code has worked out
 pub width-most : (k n r : ℕ) → r ≡ length (pointed k n) → k ≤ 255 → r ≤ 300
 width-most k n r e h = omega (arith, length-pointed-le k n)

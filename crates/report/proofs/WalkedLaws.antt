@@ -17,7 +17,8 @@ use Rattle.rules.specs.declared.Card.{Card}
 use Rattle.rules.proofs.Tests.{and-left, and-right}
 use Rattle.rules.proofs.PlaceLaws.{total-none}
 use Rattle.rules.proofs.SpreadLaws.{spread-of}
-use Rattle.rules.proofs.Bounds.{good-head, opens-good}
+use Rattle.rules.proofs.CardLaws.{open-card}
+use Rattle.rules.proofs.Bounds.{good-head}
 use Rattle.tally.specs.declared.Tally.{Tally}
 use Rattle.tally.specs.View.{stored, view}
 use Rattle.tally.specs.Calls.{Sound}
@@ -130,7 +131,7 @@ sound-usual t s h =
     let c = t .card in
     let a = t .lot .attribute in
     let opens = s .good (omega (arith, s .above 0 (omega arith), s .inside 0 (omega arith))) in
-    let good = and-left (headGood a (c .factor) (c .offset) (c .seeds)) _ (opens-good (t .lot) c opens) in
+    let good = and-left (headGood a (c .factor) (c .offset) (c .seeds)) _ (open-card (t .lot) c opens) in
     let k = good-head a c good in
     let f = and-left (leb (c .factor) 50) _ (and-right (leb 10 (c .factor)) _ good) in
     rw (

@@ -90,6 +90,10 @@ length-places (suc k) n = simp length-append (omega (arith, length-places k (n /
 pub length-pointed : (k n : ℕ) → 0 < k → length (pointed k n) ≡ length (decimal (n / 10 ^ k)) + 1 + k
 length-pointed k n h = ap length (pointed-is k n h) ∙ simp (length-append, length-places) (omega arith)
 
+pub length-pointed-le : (k n : ℕ) → length (pointed k n) ≤ 21 + k
+length-pointed-le zero n = rw (pointed-none n) (omega (arith, length-decimal n))
+length-pointed-le (suc k) n = omega (arith, length-pointed (suc k) n (omega arith), length-decimal (n / 10 ^ suc k))
+
 -- ---- in a buffer
 pub length-laid : (t d : List ℕ) → length t ≤ length d → length (laid t d) ≡ length d
 unfolding laid

@@ -1,9 +1,3 @@
-pub mod Going
 pub mod Taking
 pub mod Following
-pub mod Falling
-pub mod Prefix
-pub mod Spelt
-pub mod Ready
 pub mod Judging
-pub mod Longest

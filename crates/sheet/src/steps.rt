@@ -6,15 +6,16 @@ ghost use Prim.Native.Nat.{ℕ};
 ghost use Rattle.rules.specs.Frames.{frameOf};
 ghost use Rattle.rules.specs.Reading.{lotStep, cardStep, criticalStep, rangeStep, resultStep, endStep, stepOf};
 ghost use Rattle.sheet.specs.Promise.{Lists, listsOf, withCriticals, withRows, withResults, cardOf, atFirst, Began, Steps};
+use cards;
 use frames;
 use rules::CRITICALS;
 use rules::Card;
 use rules::Frame;
+use rules::LEAST_REPORTED;
 use rules::Lot;
 use rules::MOST_HELD;
 use rules::MOST_ROWS;
 use rules::Refusal;
-use rules::cards;
 
 // What the lines so far came to, but for the lists: the kind of the frame before, 0 for none; the lot; F, G, n and the number of rows
 // of the card; N of the critical frame before, 0 for none; and how many results are held.
@@ -113,7 +114,7 @@ fn critical_step(p: Progress, critical: &mut [u32; CRITICALS], k: u16, v: u16) -
     ensures { λ r. ⌜ ((l : Lists) → Steps (λ s. criticalStep s k v) p (withCriticals l (now (critical .entry))) r (withCriticals l (now (critical .exit)))) ⌝ }
 {
     if (2 <= p.before) & (p.before <= 3) {
-        if (5 <= k) & ((k as usize <= MOST_HELD) & (p.last < k)) {
+        if (LEAST_REPORTED <= k as usize) & ((k as usize <= MOST_HELD) & (p.last < k)) {
             critical[k as usize] = v as u32 + 1;
             let mut next = p;
             next.before = 3;

@@ -2,7 +2,7 @@
 use mathlib.Core.Path.{sym}
 use native.Mathlib.Omega.{arith}
 use lib.Seq.{length-take-le}
-use Rattle.sheet.proofs.Longest.{printed-within}
+use Rattle.reading.proofs.Longest.{printed-within}
 use borrow.Author.Needs.{needs}
 use Rattle.lotreport.proofs.main.Statement.{statement}
 use Rattle.lotreport.proofs.main.Tie as tie

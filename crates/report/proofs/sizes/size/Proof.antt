@@ -1,7 +1,8 @@
 -- `report::sizes::size` meets its contract. Assumes nothing.
 use native.Mathlib.Omega.{arith}
 use Rattle.rules.proofs.TextLaws.{length-decimal}
-use Rattle.report.proofs.FindingsLaws.{length-pointed-le, length-findings}
+use Rattle.rules.proofs.TextLaws.{length-pointed-le}
+use Rattle.report.proofs.FindingsLaws.{length-findings}
 use borrow.Author.Needs.{needs}
 use Rattle.report.proofs.sizes.size.Statement.{statement}
 use Rattle.report.proofs.sizes.size.Tie as tie

@@ -2,7 +2,7 @@
 use mathlib.Core.Path.{refl}
 use native.Mathlib.Omega.{arith}
 use Rattle.report.specs.Findings.{valueSize}
-use Rattle.report.proofs.FindingsLaws.{length-pointed-le}
+use Rattle.rules.proofs.TextLaws.{length-pointed-le}
 use borrow.Author.Needs.{needs}
 use Rattle.report.proofs.sizes.value_size.Statement.{statement}
 use Rattle.report.proofs.sizes.value_size.Tie as tie

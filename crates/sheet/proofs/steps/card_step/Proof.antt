@@ -7,7 +7,7 @@ use Rattle.sheet.proofs.Taking.{stopped, went}
 use borrow.Author.Needs.{needs}
 use Rattle.sheet.proofs.steps.card_step.Statement.{statement}
 use Rattle.sheet.proofs.steps.card_step.Tie as tie
-use Rattle.rules.proofs.cards.head_good.Reads as head-good-reads
+use Rattle.cards.proofs.head_good.Reads as head-good-reads
 
 returns : tie.Need-returns
 unfolding cardStep

@@ -3,7 +3,7 @@ use mathlib.Core.Path.{refl}
 use borrow.Author.Tests.{eqb-false, lt-ltb}
 use native.Mathlib.Omega.{arith}
 use Rattle.rules.specs.Reading.{criticalStep}
-use Rattle.sheet.proofs.Going.{between}
+use Rattle.reading.proofs.Going.{between}
 use Rattle.sheet.proofs.Taking.{stopped, went, critical-below}
 use borrow.Author.Needs.{needs}
 use Rattle.sheet.proofs.steps.critical_step.Statement.{statement}

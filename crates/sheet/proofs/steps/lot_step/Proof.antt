@@ -7,7 +7,7 @@ use Rattle.sheet.proofs.Taking.{stopped, went}
 use borrow.Author.Needs.{needs}
 use Rattle.sheet.proofs.steps.lot_step.Statement.{statement}
 use Rattle.sheet.proofs.steps.lot_step.Tie as tie
-use Rattle.rules.proofs.cards.lot_good.Reads as lot-good-reads
+use Rattle.cards.proofs.lot_good.Reads as lot-good-reads
 
 returns : tie.Need-returns
 unfolding lotStep

@@ -3,12 +3,12 @@ use mathlib.Core.Path.{refl, sym, _∙_}
 use borrow.Author.Tests.{eqb-false, lt-ltb, le-ltb}
 use native.Mathlib.Omega.{arith}
 use Rattle.rules.specs.Reading.{rangeStep}
-use Rattle.sheet.proofs.Going.{between}
+use Rattle.reading.proofs.Going.{between}
 use Rattle.sheet.proofs.Taking.{stopped, went}
 use borrow.Author.Needs.{needs}
 use Rattle.sheet.proofs.steps.range_step.Statement.{statement}
 use Rattle.sheet.proofs.steps.range_step.Tie as tie
-use Rattle.rules.proofs.cards.row_good.Reads as row-good-reads
+use Rattle.cards.proofs.row_good.Reads as row-good-reads
 
 row-good-requires : tie.Need-row-good-requires
 row-good-requires c κs = search needs
