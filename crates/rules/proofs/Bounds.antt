@@ -1,24 +1,23 @@
 -- H never exceeds 1,250.00 for percentages and 12,500.00 for counts: neither the exact fraction nor the reported decimal. Assumes nothing.
-use mathlib.Core.Path.{_≡_, refl, sym, _∙_}
+use mathlib.Core.Path.{_≡_, sym, _∙_}
 use mathlib.Core.Bool.{Bool, true, false, _&&_, true≢false}
 use Prim.Native.Nat.{ℕ, _+_, _-_, _*_, _≤_, _<_}
 use native.Mathlib.Decide.{decLe}
 use native.Mathlib.Omega.{arith}
 use lib.Dec.{eqb, leb}
-use borrow.Author.Tests.{le-ltb, leb-true, eqb-true, eqb-false}
+use borrow.Author.Tests.{le-ltb, leb-true, eqb-true}
 use Rattle.rules.specs.Choice.{pick}
-use Rattle.rules.specs.Limits.{highestX, mostRows, leastReported}
-use Rattle.rules.specs.Cards.{lotGood, seedsGood, headGood, cardGood, openNumber}
+use Rattle.rules.specs.Limits.{highestX, leastReported}
+use Rattle.rules.specs.Cards.{seedsGood, headGood, openNumber}
 use Rattle.rules.specs.Attributes.{attributeOf, isVoid}
 use Rattle.rules.specs.Places.{Places, largest}
-use Rattle.rules.specs.Figures.{Figures, figuresOf, Fraction, ratio, reportedH, exceeds}
-use Rattle.rules.specs.declared.Attribute.{Attribute}
+use Rattle.rules.specs.Figures.{figuresOf, Fraction, ratio, reportedH, exceeds}
 use Rattle.rules.specs.declared.Card.{Card}
 use Rattle.rules.specs.declared.Lot.{Lot}
 use Rattle.rules.proofs.Tests.{and-left, and-right}
 use Rattle.rules.proofs.CardLaws.{open-card}
 use Rattle.rules.proofs.RoundingLaws.{above-over}
-use Rattle.rules.proofs.SpreadLaws.{Spread, spread-of, Head, highestH, ratio-le, under-positive}
+use Rattle.rules.proofs.SpreadLaws.{spread-of, Head, highestH, ratio-le, under-positive}
 
 -- n is at most 1000 for percentages, and 0 for counts
 seeds-few : (a n : ℕ) → seedsGood a n ≡ true → n ≤ 1000

@@ -1,5 +1,4 @@
 -- The lines of a sheet, each ended by byte 0A.
-use mathlib.Core.Bool.{Bool, true, false}
 use mathlib.Core.List.{List, [], _∷_, _++_}
 use Prim.Native.Nat.{ℕ, suc}
 use lib.Dec.{eqb}

@@ -1,7 +1,7 @@
 // The plain data of a lot's results: attribute, lot, card, the frames of a sheet, the numbered refusals, and the answers of
 // the calls. What each means is said in specs/.
 ghost use mathlib.Core.Path.{_≡_};
-ghost use Prim.Native.Nat.{_≤_, _<_, _^_};
+ghost use Prim.Native.Nat.{_≤_, _<_};
 ghost use Rattle.rules.specs.Numbers.{numberOf};
 ghost use Rattle.rules.specs.Attributes.{attributeOf, isVoid, placesOfX, meanPlaces, meanScale};
 

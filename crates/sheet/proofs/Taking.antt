@@ -11,7 +11,7 @@ use Rattle.rules.specs.Choice.{pick}
 use Rattle.rules.specs.Limits.{mostHeld, leastReported, criticals, mostRows}
 use Rattle.rules.specs.Numbers.{numberOf}
 use Rattle.rules.specs.Cards.{openNumber}
-use Rattle.rules.specs.Ledger.{Ledger, Judged, openOn, enterOn, freshLot, freshCard, freshLedger}
+use Rattle.rules.specs.Ledger.{Ledger, Judged, enterOn, freshLot, freshCard}
 use Rattle.rules.specs.Reading.{State, Next, goes, stops, inTurn, andThen, onLedger, begun, resultStep, endStep, stepOf, refused}
 use Rattle.rules.specs.declared.Card.{Card}
 use Rattle.rules.specs.declared.Frame.{Frame}

@@ -3,10 +3,6 @@ use Rattle.sheet.proofs.Judging.{judged-refused, judged-length, judged-
 use borrow.Author.Needs.{needs}
 use Rattle.sheet.proofs.judge.Statement.{statement}
 use Rattle.sheet.proofs.judge.Tie as tie
-use Rattle.report.proofs.report.Reads as report-reads
-use Rattle.rules.proofs.Refusal.number.Reads as number-reads
-use Rattle.sheet.proofs.read.Reads as read-reads
-use Rattle.sheet.proofs.refusing.print.Reads as print-reads
 
 read-requires : tie.Need-read-requires
 read-requires c κs = search needs

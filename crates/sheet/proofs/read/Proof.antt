@@ -11,12 +11,6 @@ use Rattle.sheet.proofs.Taking.{proper-first}
 use Rattle.sheet.proofs.Following.{left, tells-as, tells-tally, within, left-unended, left-stopped, left-went, left-over, left-early}
 use Rattle.sheet.proofs.read.Statement.{statement}
 use Rattle.sheet.proofs.read.Tie as tie
-use Rattle.frames.proofs.cut.Reads as cut-reads
-use Rattle.rules.proofs.Refusal.number.Reads as number-reads
-use Rattle.sheet.proofs.refused.Reads as refused-reads
-use Rattle.sheet.proofs.steps.card_of.Reads as card-of-reads
-use Rattle.sheet.proofs.steps.start.Reads as start-reads
-use Rattle.sheet.proofs.steps.step.Reads as step-reads
 
 abbrev Inv-loop : tie.InvT-loop
 Inv-loop sheet critical₀ lowest₀ highest₀ bound₀ tolerated₀ containers₀ results₀ p₀ line₀ at₀ critical lowest highest bound tolerated containers results p line at =

@@ -3,8 +3,6 @@ use Rattle.sheet.proofs.Judging.{line-short, line-laid}
 use borrow.Author.Needs.{needs}
 use Rattle.sheet.proofs.refusing.print.Statement.{statement}
 use Rattle.sheet.proofs.refusing.print.Tie as tie
-use Rattle.sheet.proofs.refusing.refused_line.Reads as refused-line-reads
-use Rattle.sheet.proofs.refusing.size.Reads as size-reads
 
 size-requires : tie.Need-size-requires
 size-requires c κs = search needs

@@ -4,8 +4,6 @@ use Rattle.decimal.proofs.LayingLaws.{piece, then-piece, a-line}
 use borrow.Author.Needs.{needs}
 use Rattle.sheet.proofs.refusing.refused_line.Statement.{statement}
 use Rattle.sheet.proofs.refusing.refused_line.Tie as tie
-use Rattle.decimal.proofs.bytes.Reads as bytes-reads
-use Rattle.decimal.proofs.number.Reads as number-reads
 
 slice-aggregate-bytes : tie.Need-slice-aggregate-bytes
 slice-aggregate-bytes c = search needs

@@ -6,7 +6,6 @@ use Rattle.rules.proofs.TextLaws.{length-decimal}
 use borrow.Author.Needs.{needs}
 use Rattle.sheet.proofs.refusing.size.Statement.{statement}
 use Rattle.sheet.proofs.refusing.size.Tie as tie
-use Rattle.decimal.proofs.width.Reads as width-reads
 
 width-requires : tie.Need-width-requires
 width-requires c κs = search needs

@@ -1,13 +1,12 @@
 -- `sheet::steps::card_step` meets its contract.
 use mathlib.Core.Path.{refl, sym, _∙_}
-use borrow.Author.Tests.{eq-eqb, ne-eqb, eqb-false, lt-ltb}
+use borrow.Author.Tests.{eq-eqb, ne-eqb, eqb-false}
 use native.Mathlib.Omega.{arith}
 use Rattle.rules.specs.Reading.{cardStep}
 use Rattle.sheet.proofs.Taking.{stopped, went}
 use borrow.Author.Needs.{needs}
 use Rattle.sheet.proofs.steps.card_step.Statement.{statement}
 use Rattle.sheet.proofs.steps.card_step.Tie as tie
-use Rattle.cards.proofs.head_good.Reads as head-good-reads
 
 returns : tie.Need-returns
 unfolding cardStep

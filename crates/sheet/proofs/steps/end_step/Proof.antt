@@ -3,7 +3,6 @@ use Rattle.sheet.proofs.Taking.{end-unopened, end-reached, end-miscount
 use borrow.Author.Needs.{needs}
 use Rattle.sheet.proofs.steps.end_step.Statement.{statement}
 use Rattle.sheet.proofs.steps.end_step.Tie as tie
-use Rattle.rules.proofs.Refusal.number.Reads as number-reads
 
 number-requires : tie.Need-number-requires
 number-requires c κs = search needs

@@ -1,13 +1,12 @@
 -- `sheet::steps::lot_step` meets its contract.
 use mathlib.Core.Path.{refl, sym, _∙_}
-use borrow.Author.Tests.{eq-eqb, ne-eqb, eqb-false, lt-ltb}
+use borrow.Author.Tests.{eq-eqb, ne-eqb, eqb-false}
 use native.Mathlib.Omega.{arith}
 use Rattle.rules.specs.Reading.{lotStep}
 use Rattle.sheet.proofs.Taking.{stopped, went}
 use borrow.Author.Needs.{needs}
 use Rattle.sheet.proofs.steps.lot_step.Statement.{statement}
 use Rattle.sheet.proofs.steps.lot_step.Tie as tie
-use Rattle.cards.proofs.lot_good.Reads as lot-good-reads
 
 returns : tie.Need-returns
 unfolding lotStep

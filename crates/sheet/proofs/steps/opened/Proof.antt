@@ -3,8 +3,6 @@ use Rattle.sheet.proofs.Taking.{began-is, began-not, began-opens}
 use borrow.Author.Needs.{needs}
 use Rattle.sheet.proofs.steps.opened.Statement.{statement}
 use Rattle.sheet.proofs.steps.opened.Tie as tie
-use Rattle.sheet.proofs.steps.card_of.Reads as card-of-reads
-use Rattle.tally.proofs.open_refusal.Reads as open-refusal-reads
 
 card-of-requires : tie.Need-card-of-requires
 card-of-requires c κs = search needs

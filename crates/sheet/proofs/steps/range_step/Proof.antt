@@ -8,7 +8,6 @@ use Rattle.sheet.proofs.Taking.{stopped, went}
 use borrow.Author.Needs.{needs}
 use Rattle.sheet.proofs.steps.range_step.Statement.{statement}
 use Rattle.sheet.proofs.steps.range_step.Tie as tie
-use Rattle.cards.proofs.row_good.Reads as row-good-reads
 
 row-good-requires : tie.Need-row-good-requires
 row-good-requires c κs = search needs

@@ -5,8 +5,6 @@ use Rattle.sheet.proofs.Taking.{result-unopened, result-refused, result
 use borrow.Author.Needs.{needs}
 use Rattle.sheet.proofs.steps.result_step.Statement.{statement}
 use Rattle.sheet.proofs.steps.result_step.Tie as tie
-use Rattle.rules.proofs.Refusal.number.Reads as number-reads
-use Rattle.tally.proofs.enter_in.Reads as enter-in-reads
 
 number-requires : tie.Need-number-requires
 number-requires c κs = search needs

@@ -7,14 +7,6 @@ use Rattle.sheet.proofs.Taking.{stopped, step-as}
 use borrow.Author.Needs.{needs}
 use Rattle.sheet.proofs.steps.step.Statement.{statement}
 use Rattle.sheet.proofs.steps.step.Tie as tie
-use Rattle.frames.proofs.frame_of.Reads as frame-of-reads
-use Rattle.sheet.proofs.steps.card_step.Reads as card-step-reads
-use Rattle.sheet.proofs.steps.critical_step.Reads as critical-step-reads
-use Rattle.sheet.proofs.steps.end_step.Reads as end-step-reads
-use Rattle.sheet.proofs.steps.lot_step.Reads as lot-step-reads
-use Rattle.sheet.proofs.steps.opened.Reads as opened-reads
-use Rattle.sheet.proofs.steps.range_step.Reads as range-step-reads
-use Rattle.sheet.proofs.steps.result_step.Reads as result-step-reads
 
 frame-of-requires : tie.Need-frame-of-requires
 frame-of-requires c κs = search needs
