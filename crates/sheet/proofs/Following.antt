@@ -17,9 +17,10 @@ use Rattle.rules.proofs.LineLaws.{lines-ended, lines-unended, lines-none, line-
 use Rattle.tally.specs.View.{tallyOf, view}
 use Rattle.sheet.specs.declared.Answer.the-variants.{Accepted}
 use Rattle.sheet.specs.declared.Reading.{Reading}
-use Rattle.sheet.specs.declared.steps.Progress.{Progress}
-use Rattle.sheet.specs.declared.steps.Stepped.{Stepped}
-use Rattle.sheet.specs.Promise.{Lists, cardOf, reached, stateOf, Proper, Took, Tells}
+use Rattle.steps.specs.declared.Progress.{Progress}
+use Rattle.steps.specs.declared.Stepped.{Stepped}
+use Rattle.steps.specs.Promise.{Lists, cardOf, reached, stateOf, Proper, Took}
+use Rattle.sheet.specs.Promise.{Tells}
 
 -- what is left of the sheet s from a on, in the state t, the next line having the number n
 unfoldable pub left : List ℕ → ℕ → State → ℕ → Outcome

@@ -1,3 +1,2 @@
-pub mod Taking
+pub mod Fresh
 pub mod Following
-pub mod Judging

@@ -1,19 +1,12 @@
-// A sheet's bytes in; its tally or its first fault out, or all that lotreport prints for them.
-ghost use mathlib.Core.Path.{_≡_};
-ghost use Rattle.rules.specs.Numbers.{numberOf, printedAnswer};
-ghost use Rattle.rules.specs.Printing.{printOn};
+// A sheet's bytes in; its tally or its first fault out.
+ghost use Rattle.rules.specs.Numbers.{numberOf};
 ghost use Rattle.rules.specs.Reading.{refused as Reading·refused, readOf};
 ghost use Rattle.sheet.specs.Promise.{Tells};
 use rules::CRITICALS;
 use rules::MOST_HELD;
 use rules::MOST_ROWS;
-use rules::Printed;
 use rules::Refusal;
-use rules::Reported;
 use tally::Tally;
-
-mod refusing;
-mod steps;
 
 pub enum Answer {
     // with the number of lines
@@ -92,25 +85,4 @@ pub fn read(sheet: &[u8]) -> Reading
         };
     }
     refused(Refusal::OutOfTurn, line)
-}
-
-// What lotreport prints for a sheet: the report of its tally, or the line of its first fault. A sheet with too few results is
-// refused at its last line, that of the 06 frame.
-pub fn judge(sheet: &[u8], buf: &mut [u8]) -> Printed
-    ensures { λ r. ⌜ printedAnswer r (now (buf .exit)) ≡ printOn (now (sheet .entry)) (now (buf .entry)) ⌝ }
-{
-    let reading = read(sheet);
-    let answer = reading.answer;
-    let t = reading.tally;
-    match answer {
-        Answer::Refused(e, line) => refusing::print(buf, e.number(), line),
-        Answer::Accepted(lines) => {
-            let told = report::report(t, buf);
-            match told {
-                Reported::Length(n) => Printed::Length(n),
-                Reported::TooFew => refusing::print(buf, 15, lines),
-                Reported::BufferShort => Printed::BufferShort,
-            }
-        }
-    }
 }

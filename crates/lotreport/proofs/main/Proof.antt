@@ -9,7 +9,7 @@ use Rattle.lotreport.proofs.main.Tie as tie
 use Rattle.io.proofs.buffer.Reads as buffer-reads
 use Rattle.io.proofs.read_full.Reads as read-full-reads
 use Rattle.io.proofs.write_all.Reads as write-all-reads
-use Rattle.sheet.proofs.judge.Reads as judge-reads
+use Rattle.judge.proofs.judge.Reads as judge-reads
 
 buffer-requires : tie.Need-buffer-requires
 buffer-requires c κs = search needs

@@ -6,8 +6,8 @@ use native.Mathlib.Omega.{arith}
 use lib.ListN.{length}
 use borrow.Author.Needs.{needs}
 use Rattle.rules.specs.Reading.{readOf}
-use Rattle.sheet.specs.Promise.{listsOf, stateOf, Proper}
-use Rattle.sheet.proofs.Taking.{proper-first}
+use Rattle.steps.specs.Promise.{listsOf, stateOf, Proper}
+use Rattle.steps.proofs.Taking.{proper-first}
 use Rattle.sheet.proofs.Following.{left, tells-as, tells-tally, within, left-unended, left-stopped, left-went, left-over, left-early}
 use Rattle.sheet.proofs.read.Statement.{statement}
 use Rattle.sheet.proofs.read.Tie as tie
