@@ -1,5 +1,6 @@
 // A sheet's lines, a line's fields of hexadecimal digits, and the frame that a line is.
 ghost use mathlib.Core.Path.{_≡_};
+ghost use mathlib.Core.Bool.{true};
 ghost use Prim.Native.Nat.{_+_, _≤_};
 ghost use lib.ListN.{length, drop};
 ghost use Rattle.rules.specs.Lines.{span};
@@ -53,28 +54,18 @@ fn all_digits(line: &[u8]) -> bool
     true
 }
 
-// A digit's value; 0 for another byte.
+// A digit's value: the byte of A is 65, one above 64, and that of 0 is 48. Without a branch, since nothing foretells which digits are
+// letters.
 fn digit_value(c: u8) -> u16
+    requires { ⌜ isDigit c ≡ true ⌝ }
     ensures { λ r. ⌜ r ≡ valueOf c ⌝ }
 {
-    if c < b'0' {
-        return 0;
-    }
-    if c <= b'9' {
-        return (c - b'0') as u16;
-    }
-    if c < b'A' {
-        return 0;
-    }
-    if c <= b'F' {
-        return (c - b'A' + 10) as u16;
-    }
-    0
+    (c % 16 + c / 64 * 9) as u16
 }
 
 // The field of `count` digits from `from` on.
 fn field(line: &[u8], from: usize, count: usize) -> u16
-    requires { ⌜ (from + count ≤ length (now line)) × (count ≤ 4) ⌝ }
+    requires { ⌜ (from + count ≤ length (now line)) × (count ≤ 4) × (allDigits (now line) ≡ true) ⌝ }
     ensures { λ r. ⌜ r ≡ fieldOf (now (line .entry)) from count ⌝ }
 {
     let mut v: u16 = 0;
@@ -87,6 +78,7 @@ fn field(line: &[u8], from: usize, count: usize) -> u16
 }
 
 fn lot_frame(line: &[u8]) -> Frame
+    requires { ⌜ allDigits (now line) ≡ true ⌝ }
     ensures { λ r. ⌜ r ≡ lotFrame (now (line .entry)) ⌝ }
 {
     if line.len() == 8 {
@@ -99,6 +91,7 @@ fn lot_frame(line: &[u8]) -> Frame
 }
 
 fn card_frame(line: &[u8]) -> Frame
+    requires { ⌜ allDigits (now line) ≡ true ⌝ }
     ensures { λ r. ⌜ r ≡ cardFrame (now (line .entry)) ⌝ }
 {
     if line.len() == 10 {
@@ -112,6 +105,7 @@ fn card_frame(line: &[u8]) -> Frame
 }
 
 fn critical_frame(line: &[u8]) -> Frame
+    requires { ⌜ allDigits (now line) ≡ true ⌝ }
     ensures { λ r. ⌜ r ≡ criticalFrame (now (line .entry)) ⌝ }
 {
     if line.len() == 8 {
@@ -124,6 +118,7 @@ fn critical_frame(line: &[u8]) -> Frame
 }
 
 fn range_frame(line: &[u8]) -> Frame
+    requires { ⌜ allDigits (now line) ≡ true ⌝ }
     ensures { λ r. ⌜ r ≡ rangeFrame (now (line .entry)) ⌝ }
 {
     if line.len() == 14 {
@@ -138,6 +133,7 @@ fn range_frame(line: &[u8]) -> Frame
 }
 
 fn result_frame(line: &[u8]) -> Frame
+    requires { ⌜ allDigits (now line) ≡ true ⌝ }
     ensures { λ r. ⌜ r ≡ resultFrame (now (line .entry)) ⌝ }
 {
     if line.len() == 10 {
@@ -150,6 +146,7 @@ fn result_frame(line: &[u8]) -> Frame
 }
 
 fn end_frame(line: &[u8]) -> Frame
+    requires { ⌜ allDigits (now line) ≡ true ⌝ }
     ensures { λ r. ⌜ r ≡ endFrame (now (line .entry)) ⌝ }
 {
     if line.len() == 4 {
@@ -162,6 +159,7 @@ fn end_frame(line: &[u8]) -> Frame
 
 // The frame of a line of digits, by its kind.
 fn kind_frame(kind: u16, line: &[u8]) -> Frame
+    requires { ⌜ allDigits (now line) ≡ true ⌝ }
     ensures { λ r. ⌜ r ≡ kindFrame kind (now (line .entry)) ⌝ }
 {
     match kind {

@@ -7,6 +7,7 @@ use borrow.Author.Needs.{needs}
 use lib.ListN.{getD}
 use Rattle.rules.specs.Fields.{fieldOf}
 use Rattle.rules.proofs.FieldLaws.{field-none, field-more, field-few, value-lt}
+use Rattle.frames.proofs.Digits.{digit-at}
 use Rattle.frames.proofs.field.Statement.{statement}
 use Rattle.frames.proofs.field.Tie as tie
 use Rattle.frames.proofs.digit_value.Reads as digit-value-reads
@@ -30,7 +31,7 @@ shared-slice-read-digit-value : tie.Need-shared-slice-read-digit-value Inv-loop 
 shared-slice-read-digit-value c = search needs
 
 digit-value-requires : tie.Need-digit-value-requires Inv-loop μ-loop
-digit-value-requires c κs = search needs
+digit-value-requires c κs = digit-at _ _ (c .before .before .before .before .pre .2) (omega arith)
 
 add-v : tie.Need-add-v Inv-loop μ-loop
 add-v c =

@@ -1,4 +1,5 @@
 -- `frames::frame_of` meets its contract.
+use mathlib.Core.Path.{sym, _∙_}
 use borrow.Author.Tests.{not-true, not-false, le-leb, lt-leb}
 use Rattle.rules.specs.Frames.{frameOf}
 use borrow.Author.Needs.{needs}
@@ -20,10 +21,10 @@ unfolding frameOf
 returns-2 c = simp (← (c .before .before .all-digits .ensures), not-false (c .before .before .all-digits .result) (c .before .if1 .left), lt-leb 2 _ (c .if2 .taken))
 
 field-requires : tie.Need-field-requires
-field-requires c κs = search needs
+field-requires c κs = (search needs, search needs, sym (c .before .before .all-digits .ensures) ∙ not-false _ (c .before .if1 .left))
 
 kind-frame-requires : tie.Need-kind-frame-requires
-kind-frame-requires c κs = search needs
+kind-frame-requires c κs = sym (c .before .before .before .all-digits .ensures) ∙ not-false _ (c .before .before .if1 .left)
 
 returns-3 : tie.Need-returns-3
 unfolding frameOf
