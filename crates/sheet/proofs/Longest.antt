@@ -23,7 +23,7 @@ use Rattle.rules.specs.declared.Card.{Card}
 use Rattle.rules.specs.declared.Printed.{Printed}
 use Rattle.rules.specs.declared.Printed.the-variants.{Length, BufferShort}
 use Rattle.rules.proofs.TextLaws.{length-decimal, fits-is}
-use Rattle.report.proofs.FindingsLaws.{length-pointed-le}
+use Rattle.decimal.proofs.Widths.{length-pointed-le}
 
 pick-most : (b : Bool) (x y : List ℕ) (n : ℕ) → length x ≤ n → length y ≤ n → length (pick b x y) ≤ n
 pick-most true x y n h k = h
