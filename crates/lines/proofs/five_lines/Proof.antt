@@ -81,13 +81,11 @@ same-length c = search needs
 returns : tie.Need-returns
 unfolding findingsText
 returns c =
-    then-line _ _ _ _ _ _ _ _
-    (then-line _ _ _ _ _ _ _ _
-    (then-line _ _ _ _ _ _ _ _
-    (then-line _ _ _ _ _ _ _ _ (c .before .before .before .before .before .before .before .before .before .before .before .before .before .before .before .before .before .before .before .before .count-line .ensures) refl (c .before .before .before .before .before .before .before .before .before .before .before .before .before .before .before .before .mean-line .ensures))
-    refl (c .before .before .before .before .before .before .before .before .before .before .before .value-line .ensures))
-    refl (c .before .before .before .before .before .before .value-line2 .ensures))
-    refl (c .before .before .lot-line .ensures)
+    let one = c .before .before .before .before .before .before .before .before .before .before .before .before .before .before .before .before .before .before .before .before .count-line .ensures in
+    let two = then-line _ _ _ _ _ _ _ _ one refl (c .before .before .before .before .before .before .before .before .before .before .before .before .before .before .before .before .mean-line .ensures) in
+    let three = then-line _ _ _ _ _ _ _ _ two refl (c .before .before .before .before .before .before .before .before .before .before .before .value-line .ensures) in
+    let four = then-line _ _ _ _ _ _ _ _ three refl (c .before .before .before .before .before .before .value-line2 .ensures) in
+    then-line _ _ _ _ _ _ _ _ four refl (c .before .before .lot-line .ensures)
 
 pub five-lines-spec : {M : Type 1} → statement M
 five-lines-spec =
