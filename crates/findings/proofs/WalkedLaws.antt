@@ -1,5 +1,5 @@
 -- The figures of a walk over stored results, and what the tests of card and results show. Assumes nothing.
-use Prim.Native.Nat.{ℕ, zero, suc, _+_, _*_, _≤_, _<_, min, max}
+use Prim.Native.Nat.{ℕ, zero, suc, _+_, _*_, _≤_, min, max}
 use native.Mathlib.Omega.{arith}
 use native.Mathlib.Numerals.{add-one}
 use mathlib.Core.Path.{_≡_, refl, sym, ap, _∙_}
@@ -18,7 +18,7 @@ use Rattle.rules.specs.declared.Attribute.{Attribute}
 use Rattle.findings.specs.declared.figures.Figures.{Figures}
 use Rattle.findings.specs.declared.Findings.{Findings}
 use Rattle.findings.specs.Findings.{IsFound}
-use Rattle.findings.specs.Walked.{inOrder, asFigures, WithResult, usual, reportable, Modest, Usual}
+use Rattle.findings.specs.Walked.{inOrder, asFigures, WithResult, usual, reportable, Usual}
 
 pub count-in-order : (vs : List ℕ) (n : ℕ) → total one n (inOrder vs) ≡ n
 unfolding total

@@ -2,9 +2,9 @@
 ghost use mathlib.Core.Path.{_≡_};
 ghost use Prim.Native.Nat.{_-_, _≤_};
 ghost use Rattle.rules.specs.Limits.{mostHeld};
-ghost use Rattle.rules.specs.Figures.{figuresOf, meanOf};
+ghost use Rattle.rules.specs.Figures.{meanOf};
 ghost use Rattle.decimal.specs.Dividing.{Workable};
-ghost use Rattle.findings.specs.Walked.{inOrder, asFigures, asFraction, Usual};
+ghost use Rattle.findings.specs.Walked.{asFigures, asFraction, Usual};
 ghost use Rattle.findings.specs.Findings.{limitOf, verdictOf, together as rule·together, noValue, IsH, IsR, IsFound, Finds};
 use figures::Figures;
 use rules::Attribute;

@@ -1,5 +1,4 @@
 // The five lines of a report. Each writer of a line gets the rest of the buffer, behind the lines already laid down.
-ghost use mathlib.Core.Path.{_≡_};
 ghost use Rattle.rules.specs.Report.{countLine, meanLine, verdictWord, limitText};
 ghost use Rattle.decimal.specs.Laying.{Laying, Lining};
 ghost use Rattle.findings.specs.Findings.{limitOf, verdictOf};

@@ -9,7 +9,7 @@ use lib.ListN.{length}
 use borrow.Author.Tests.{lt-ltb, le-ltb}
 use Rattle.rules.specs.Limits.{leastReported}
 use Rattle.rules.specs.Attributes.{attributeOf}
-use Rattle.rules.specs.Report.{fiveLines, reportOf}
+use Rattle.rules.specs.Report.{reportOf}
 use Rattle.rules.specs.declared.Attribute.{Attribute}
 use Rattle.rules.specs.declared.Reported.the-variants.{Length, TooFew, BufferShort}
 use Rattle.rules.proofs.TextLaws.{drop-laid, short-is, fits-is}
