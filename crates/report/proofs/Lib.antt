@@ -1,5 +1,4 @@
 pub mod Ends
-pub mod WalkedLaws
-pub mod ValueLaws
-pub mod FindingsLaws
+pub mod StoredFigures
+pub mod ReportTexts
 pub mod Reported

@@ -1,3 +1,1 @@
-pub mod Walked
-pub mod Findings
 pub mod Reports

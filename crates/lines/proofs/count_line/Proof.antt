@@ -1,0 +1,45 @@
+-- `lines::count_line` meets its contract: its pieces, one behind the other. Assumes nothing.
+use Rattle.rules.specs.Report.{countLine}
+use Rattle.decimal.proofs.LayingLaws.{piece, then-piece, a-line}
+use borrow.Author.Needs.{needs}
+use Rattle.lines.proofs.count_line.Statement.{statement}
+use Rattle.lines.proofs.count_line.Tie as tie
+
+slice-aggregate-bytes : tie.Need-slice-aggregate-bytes
+slice-aggregate-bytes c = search needs
+
+bytes-requires : tie.Need-bytes-requires
+bytes-requires c κs = search needs
+
+number-requires : tie.Need-number-requires
+number-requires c κs = search needs
+
+slice-aggregate-bytes-2 : tie.Need-slice-aggregate-bytes-2
+slice-aggregate-bytes-2 c = search needs
+
+bytes-requires-2 : tie.Need-bytes-requires-2
+bytes-requires-2 c κs = search needs
+
+same-length : tie.Need-same-length
+same-length c = search needs
+
+returns : tie.Need-returns
+unfolding countLine
+returns c =
+    a-line _ _ _ _
+    (then-piece _ _ _ _ _ _ _ _
+    (then-piece _ _ _ _ _ _ _ _ (piece _ _ _ _ _ (c .before .before .before .before .before .before .before .before .before .before .before .bytes .ensures) (c .before .before .before .before .before .before .before .before .before .before .before .bytes .kept .0)) (c .before .before .before .before .before .before .before .number .ensures) (c .before .before .before .before .before .before .before .number .kept .0))
+    (c .before .before .bytes2 .ensures)
+    (c .before .before .bytes2 .kept .0))
+
+pub count-line-spec : {M : Type 1} → statement M
+count-line-spec =
+    tie.close
+    (tie.spec
+    slice-aggregate-bytes
+    bytes-requires
+    number-requires
+    slice-aggregate-bytes-2
+    bytes-requires-2
+    same-length
+    returns)
