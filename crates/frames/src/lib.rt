@@ -3,36 +3,17 @@ ghost use mathlib.Core.Path.{_≡_};
 ghost use mathlib.Core.Bool.{true};
 ghost use Prim.Native.Nat.{_+_, _≤_};
 ghost use lib.ListN.{length, drop};
-ghost use Rattle.rules.specs.Lines.{span};
+ghost use Rattle.rules.specs.Lines.{run};
 ghost use Rattle.rules.specs.Fields.{isDigit, allDigits, valueOf, fieldOf};
 ghost use Rattle.rules.specs.Frames.{lotFrame, cardFrame, criticalFrame, rangeFrame, resultFrame, endFrame, kindFrame, frameOf};
-ghost use Rattle.frames.specs.Cutting.{CutAt};
+ghost use Rattle.frames.specs.Cutting.{CutAt, LineAt};
 use rules::Frame;
 use rules::checks;
 
-// Where the line that starts at `at` ends: at its end byte, or at the sheet's end.
-fn line_end(sheet: &[u8], at: usize) -> usize
-    requires { ⌜ at ≤ length (now sheet) ⌝ }
-    ensures { λ r. ⌜ (r ≡ at + span (drop at (now (sheet .entry)))) × (r ≤ length (now (sheet .entry))) ⌝ }
-{
-    let mut i = at;
-    while i < sheet.len() {
-        if sheet[i] == b'\n' {
-            return i;
-        }
-        i += 1;
-    }
-    i
-}
-
-// The line that starts at `at`, without its end byte: a part of the sheet. Whether an end byte follows it, or the sheet's
-// end, the caller sees by its length.
-pub fn cut(sheet: &[u8], at: usize) -> &[u8]
-    ensures { λ r. ⌜ CutAt (sheet .entry) at r ⌝ }
-{
-    let start = checks::least(at, sheet.len());
-    let end = line_end(sheet, start);
-    &sheet[start..end]
+// A line's frame, and the place of its end byte.
+pub struct Line {
+    pub frame: Frame,
+    pub end: usize,
 }
 
 fn is_digit(c: u8) -> bool
@@ -41,17 +22,29 @@ fn is_digit(c: u8) -> bool
     ((b'0' <= c) & (c <= b'9')) | ((b'A' <= c) & (c <= b'F'))
 }
 
-fn all_digits(line: &[u8]) -> bool
-    ensures { λ r. ⌜ r ≡ allDigits (now (line .entry)) ⌝ }
+// Where the digits that start at `at` end: at the first byte that is none, or at the sheet's end.
+fn digits_end(sheet: &[u8], at: usize) -> usize
+    requires { ⌜ at ≤ length (now sheet) ⌝ }
+    ensures { λ r. ⌜ (r ≡ at + run (drop at (now (sheet .entry)))) × (r ≤ length (now (sheet .entry))) ⌝ }
 {
-    let mut i = 0;
-    while i < line.len() {
-        if !is_digit(line[i]) {
-            return false;
+    let mut i = at;
+    while i < sheet.len() {
+        if !is_digit(sheet[i]) {
+            return i;
         }
         i += 1;
     }
-    true
+    i
+}
+
+// The digits of the line that starts at `at`: a part of the sheet. Whether the line's end byte follows them, the caller sees by their
+// length.
+pub fn cut(sheet: &[u8], at: usize) -> &[u8]
+    ensures { λ r. ⌜ CutAt (sheet .entry) at r ⌝ }
+{
+    let start = checks::least(at, sheet.len());
+    let end = digits_end(sheet, start);
+    &sheet[start..end]
 }
 
 // A digit's value: the byte of A is 65, one above 64, and that of 0 is 48. Without a branch, since nothing foretells which digits are
@@ -173,15 +166,37 @@ fn kind_frame(kind: u16, line: &[u8]) -> Frame
     }
 }
 
-// What a line says.
-pub fn frame_of(line: &[u8]) -> Frame
+// What a line of digits says.
+fn frame_of(line: &[u8]) -> Frame
+    requires { ⌜ allDigits (now line) ≡ true ⌝ }
     ensures { λ r. ⌜ r ≡ frameOf (now (line .entry)) ⌝ }
 {
-    if !all_digits(line) {
-        return Frame::Bad;
-    }
     if line.len() < 2 {
         return Frame::Bad;
     }
     kind_frame(field(line, 0, 2), line)
+}
+
+// What the line that starts at `at` says. A line with another byte than digits, or without its end byte, is a bad one.
+pub fn line_at(sheet: &[u8], at: usize) -> Line
+    ensures { λ r. ⌜ LineAt (now (sheet .entry)) at r ⌝ }
+{
+    let digits = cut(sheet, at);
+    let end = at + digits.len();
+    if sheet.len() <= end {
+        return Line {
+            frame: Frame::Bad,
+            end: end,
+        };
+    }
+    if sheet[end] != b'\n' {
+        return Line {
+            frame: Frame::Bad,
+            end: end,
+        };
+    }
+    Line {
+        frame: frame_of(digits),
+        end: end,
+    }
 }

@@ -1,25 +1,32 @@
 -- The lines of a sheet one after the other: one law for each way the reader goes.
 use mathlib.Core.Path.{_≡_, refl, sym, ap, _∙_}
-use mathlib.Core.Bool.{Bool}
+use mathlib.Core.Bool.{Bool, true, false}
 use mathlib.Core.List.{List}
 use Prim.Native.Nat.{ℕ, _+_, _-_, _≤_, _<_}
+use native.Mathlib.Decide.{decLe}
 use native.Mathlib.Omega.{arith}
 use lib.ListN.{length, drop}
-use borrow.Author.Tests.{eq-eqb, ne-eqb, le-ltb}
+use borrow.Author.Tests.{eq-eqb, ne-eqb, lt-ltb, le-ltb}
 use Rattle.rules.specs.Choice.{pick}
 use Rattle.rules.specs.Numbers.{numberOf}
 use Rattle.rules.specs.Ledger.{freshLedger}
 use Rattle.rules.specs.Lines.{linesOf, lineAt}
 use Rattle.rules.specs.Frames.{frameOf}
-use Rattle.rules.specs.Reading.{State, Outcome, accepted, refused, stepOf, after, readFrom}
-use Rattle.rules.specs.declared.Card.{Card}
-use Rattle.rules.proofs.LineLaws.{lines-ended, lines-unended, lines-none, line-within}
-use Rattle.tally.specs.View.{tallyOf, view}
+use Rattle.rules.specs.Reading.{State, Next, goes, stops, Outcome, accepted, refused, stepOf, after, readFrom}
+use Rattle.rules.specs.Fields.{allDigits}
+use Rattle.rules.specs.declared.Frame.{Frame}
+use Rattle.rules.specs.declared.Frame.the-variants.{Bad}
+use Rattle.rules.proofs.LineLaws.{lines-ended, lines-unended, lines-none}
+use Rattle.frames.specs.declared.Line.{Line}
+use Rattle.frames.specs.Cutting.{LineAt}
+use Rattle.reading.proofs.Going.{never}
+use Rattle.tally.specs.View.{view}
+use Rattle.tally.specs.declared.Tally.{Tally}
 use Rattle.sheet.specs.declared.Answer.the-variants.{Accepted}
 use Rattle.sheet.specs.declared.Reading.{Reading}
 use Rattle.steps.specs.declared.Progress.{Progress}
 use Rattle.steps.specs.declared.Stepped.{Stepped}
-use Rattle.steps.specs.Promise.{Lists, cardOf, reached, stateOf, Proper, Took}
+use Rattle.steps.specs.Promise.{Lists, reached, stateOf, nextOf, Proper, Took}
 use Rattle.sheet.specs.Promise.{Tells}
 
 -- what is left of the sheet s from a on, in the state t, the next line having the number n
@@ -29,31 +36,75 @@ left s a t n = readFrom (linesOf (drop a s)) t (n - 1)
 pub tells-as : (v w : Outcome) (r : Reading) → v ≡ w → Tells w r → Tells v r
 tells-as v w r e h = record { right = h .right ∙ sym e; sound = h .sound; empty = h .empty }
 
-module _ (s d : List ℕ) (a : ℕ) (is : d ≡ lineAt s a) where
-  pub within : a ≤ length s → a + length d ≤ length s
-  within h = omega (arith, line-within s a h, ap length is)
+stops-same : (i j : ℕ) → stops i ≡ stops j → i ≡ j
+stops-same i j q = cc
 
-  module _ (t : State) (n : ℕ) (from : 1 ≤ n) where
-    number : n - 1 + 1 ≡ n
-    number = omega arith
+bad-frame : (l : List ℕ) → allDigits l ≡ false → frameOf l ≡ Bad
+unfolding frameOf
+bad-frame l e = rw e refl
 
-    pub left-unended : a < length s → length s ≤ a + length d → left s a t n ≡ refused 1 n
-    unfolding left readFrom
-    left-unended h k = rw (lines-unended s a h (omega (arith, ap length is))) (ap (refused 1) number)
+-- ---- a line: its frame and what the step of the frame does
+module _ (s : List ℕ) (a : ℕ) (t : State) (n : ℕ) (from : 1 ≤ n) (h : a < length s) where
+  number : n - 1 + 1 ≡ n
+  number = omega arith
 
-    left-line : a + length d < length s → left s a t n ≡ after (stepOf (frameOf d) t) n (λ u. readFrom (linesOf (drop (a + length d + 1) s)) u n)
-    unfolding left readFrom
-    left-line h = rw (is, lines-ended s a (omega (arith, ap length is)), number) refl
+  left-unended : length s ≤ a + length (lineAt s a) → left s a t n ≡ refused 1 n
+  unfolding left readFrom
+  left-unended k = rw (lines-unended s a h k) (ap (refused 1) number)
 
-    module _ (h : a + length d < length s) (r : Stepped) (l : Lists) (k : Took (stepOf (frameOf d) t) r l) (m : ℕ) (e : m ≡ numberOf (r .refusal)) where
-      pub left-stopped : (m ≡ 0 → ⊥) → left s a t n ≡ refused (numberOf (r .refusal)) n
-      left-stopped z = left-line h ∙ rw (← k .right, ← e, ne-eqb m 0 z) refl
+  -- what follows the line
+  abbrev rest : State → Outcome
+  rest u = readFrom (linesOf (drop (a + length (lineAt s a) + 1) s)) u n
 
-      pub left-went : m ≡ 0 → left s a t n ≡ left s (a + length d + 1) (stateOf (r .progress) l) (n + 1)
+  left-line : a + length (lineAt s a) < length s → left s a t n ≡ after (stepOf (frameOf (lineAt s a)) t) n rest
+  unfolding left readFrom
+  left-line k = rw (lines-ended s a k, number) refl
+
+  module _ (f : Line) (at : LineAt s a f) (r : Stepped) (l : Lists) (k : Took (stepOf (f .frame) t) r l) (m : ℕ) (e : m ≡ numberOf (r .refusal)) where
+    ended-frame : a + length (lineAt s a) < length s → f .frame ≡ frameOf (lineAt s a)
+    ended-frame q = at .frame ∙ rw (lt-ltb (a + length (lineAt s a)) (length s) q) refl
+
+    unended-frame : length s ≤ a + length (lineAt s a) → f .frame ≡ Bad
+    unended-frame q = at .frame ∙ rw (le-ltb (a + length (lineAt s a)) (length s) q) refl
+
+    -- the step of a frame that is f's
+    by-frame : (g : Frame) → f .frame ≡ g → stepOf g t ≡ nextOf r l
+    by-frame g q = sym (k .right ∙ ap (λ (i : Frame). stepOf i t) q)
+
+    pub left-stopped : (m ≡ 0 → ⊥) → left s a t n ≡ refused (numberOf (r .refusal)) n
+    left-stopped z = go (decLe (length s) (a + length (lineAt s a)))
+      where
+        stop : nextOf r l ≡ stops (numberOf (r .refusal))
+        stop = rw (← e, ne-eqb m 0 z) refl
+
+        go : Dec (length s ≤ a + length (lineAt s a)) → left s a t n ≡ refused (numberOf (r .refusal)) n
+        go (yes q) = left-unended q ∙ ap (λ (i : ℕ). refused i n) (stops-same 1 (numberOf (r .refusal)) (by-frame Bad (unended-frame q) ∙ stop))
+        go (no q) = left-line (omega arith) ∙ ap (λ (x : Next). after x n rest) (by-frame (frameOf (lineAt s a)) (ended-frame (omega arith)) ∙ stop)
+
+    module _ (z : m ≡ 0) where
+      go-on : nextOf r l ≡ goes (stateOf (r .progress) l)
+      go-on = rw (← e, eq-eqb m 0 z) refl
+
+      -- a line that is taken has its end byte, and nothing but digits before it
+      pub ended-line : a + length (lineAt s a) < length s
+      ended-line = go (decLe (length s) (a + length (lineAt s a)))
+        where
+          go : Dec (length s ≤ a + length (lineAt s a)) → a + length (lineAt s a) < length s
+          go (yes q) = never (by-frame Bad (unended-frame q) ∙ go-on)
+          go (no q) = omega arith
+
+      pub line-end : f .end ≡ a + length (lineAt s a)
+      line-end = at .end (go (allDigits (lineAt s a)) refl)
+        where
+          go : (b : Bool) → allDigits (lineAt s a) ≡ b → allDigits (lineAt s a) ≡ true
+          go true q = q
+          go false q = never (by-frame Bad (ended-frame ended-line ∙ bad-frame (lineAt s a) q) ∙ go-on)
+
+      pub left-went : left s a t n ≡ left s (f .end + 1) (stateOf (r .progress) l) (n + 1)
       unfolding left
-      left-went z =
+      left-went =
           let q : n + 1 - 1 ≡ n = omega arith in
-          left-line h ∙ rw (← k .right, ← e, eq-eqb m 0 z, q) refl
+          left-line ended-line ∙ ap (λ (x : Next). after x n rest) (by-frame (frameOf (lineAt s a)) (ended-frame ended-line) ∙ go-on) ∙ rw (line-end, q) refl
 
 module _ (s : List ℕ) (a : ℕ) (t : State) (n : ℕ) (from : 1 ≤ n) (over : length s ≤ a) where
   pub left-over : t .before ≡ 6 → left s a t n ≡ accepted (t .ledger) (n - 1)
@@ -65,9 +116,9 @@ module _ (s : List ℕ) (a : ℕ) (t : State) (n : ℕ) (from : 1 ≤ n) (over :
   left-early e = let q : n - 1 + 1 ≡ n = omega arith in rw (lines-none s a over, ne-eqb (t .before) 6 e, q) refl
 
 -- the sheet is read to its end: the tally is what the lines came to
-pub tells-tally : (v : Outcome) (p : Progress) (l : Lists) (c : Card) (n : ℕ) → Proper p l → p .before ≡ 6 → c ≡ cardOf p l → v ≡ accepted (stateOf p l .ledger) n
-    → Tells v (record { answer = Accepted n; tally = tallyOf (p .lot) c (l .containers) (l .results) (p .held) })
-tells-tally v p l c n h z q e =
+pub tells-tally : (v : Outcome) (p : Progress) (l : Lists) (u : Tally) (n : ℕ) → Proper p l → p .before ≡ 6 → u ≡ reached p l → v ≡ accepted (stateOf p l .ledger) n
+    → Tells v (record { answer = Accepted n; tally = u })
+tells-tally v p l u n h z q e =
     rw q
     (record {
       right = sym (e ∙ ap (λ (b : Bool). accepted (pick b freshLedger (view (reached p l))) n) (le-ltb (p .before) 5 (omega arith)));

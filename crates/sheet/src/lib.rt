@@ -45,11 +45,8 @@ pub fn read(sheet: &[u8]) -> Reading
     let mut line: usize = 1;
     let mut at: usize = 0;
     while at < sheet.len() {
-        let digits = frames::cut(sheet, at);
-        let end = at + digits.len();
-        if sheet.len() <= end {
-            return refused(Refusal::BadLine, line);
-        }
+        let l = frames::line_at(sheet, at);
+        let frame = l.frame;
         let s = steps::step(
             p,
             &mut critical,
@@ -59,7 +56,7 @@ pub fn read(sheet: &[u8]) -> Reading
             &mut tolerated,
             &mut containers,
             &mut results,
-            digits,
+            frame,
         );
         let e = s.refusal;
         if e.number() != 0 {
@@ -68,20 +65,21 @@ pub fn read(sheet: &[u8]) -> Reading
         let next = s.progress;
         p = next;
         line += 1;
-        at = end + 1;
+        at = l.end + 1;
     }
     if p.before == 6 {
-        let lot = p.lot;
-        let card = steps::card_of(p, &critical, &lowest, &highest, &bound, &tolerated);
         return Reading {
             answer: Answer::Accepted(line - 1),
-            tally: Tally {
-                lot: lot,
-                card: card,
-                containers: containers,
-                results: results,
-                held: p.held,
-            },
+            tally: steps::tally_of(
+                p,
+                &critical,
+                &lowest,
+                &highest,
+                &bound,
+                &tolerated,
+                &containers,
+                &results,
+            ),
         };
     }
     refused(Refusal::OutOfTurn, line)

@@ -3,11 +3,9 @@
 ghost use mathlib.Core.Path.{_≡_};
 ghost use mathlib.Core.List.{List};
 ghost use Prim.Native.Nat.{ℕ};
-ghost use Rattle.rules.specs.Frames.{frameOf};
 ghost use Rattle.rules.specs.Reading.{lotStep, cardStep, criticalStep, rangeStep, resultStep, endStep, stepOf};
-ghost use Rattle.steps.specs.Promise.{Lists, listsOf, withCriticals, withRows, withResults, cardOf, atFirst, Began, Steps};
+ghost use Rattle.steps.specs.Promise.{Lists, listsOf, withCriticals, withRows, withResults, cardOf, reached, atFirst, Began, Steps};
 use cards;
-use frames;
 use rules::CRITICALS;
 use rules::Card;
 use rules::Frame;
@@ -16,6 +14,7 @@ use rules::Lot;
 use rules::MOST_HELD;
 use rules::MOST_ROWS;
 use rules::Refusal;
+use tally::Tally;
 
 // What the lines so far came to, but for the lists: the kind of the frame before, 0 for none; the lot; F, G, n and the number of rows
 // of the card; N of the critical frame before, 0 for none; and how many results are held.
@@ -181,7 +180,7 @@ fn range_step(
 }
 
 // The card, as far as it was read.
-pub fn card_of(
+fn card_of(
     p: Progress,
     critical: &[u32; CRITICALS],
     lowest: &[u16; MOST_ROWS],
@@ -201,6 +200,30 @@ pub fn card_of(
         highest: *highest,
         bound: *bound,
         tolerated: *tolerated,
+    }
+}
+
+// The tally that the lines came to, once the lot is opened.
+pub fn tally_of(
+    p: Progress,
+    critical: &[u32; CRITICALS],
+    lowest: &[u16; MOST_ROWS],
+    highest: &[u16; MOST_ROWS],
+    bound: &[u16; MOST_ROWS],
+    tolerated: &[u16; MOST_ROWS],
+    containers: &[u16; MOST_HELD],
+    results: &[u16; MOST_HELD],
+) -> Tally
+    ensures { λ r. ⌜ r ≡ reached p (listsOf (now (critical .entry)) (now (lowest .entry)) (now (highest .entry)) (now (bound .entry)) (now (tolerated .entry)) (now (containers .entry)) (now (results .entry))) ⌝ }
+{
+    let lot = p.lot;
+    let card = card_of(p, critical, lowest, highest, bound, tolerated);
+    Tally {
+        lot: lot,
+        card: card,
+        containers: *containers,
+        results: *results,
+        held: p.held,
     }
 }
 
@@ -285,7 +308,7 @@ fn end_step(p: Progress, first: Refusal, n: u16) -> Stepped
     }
 }
 
-// What a line does.
+// What a line with this frame does.
 pub fn step(
     p: Progress,
     critical: &mut [u32; CRITICALS],
@@ -295,11 +318,10 @@ pub fn step(
     tolerated: &mut [u16; MOST_ROWS],
     containers: &mut [u16; MOST_HELD],
     results: &mut [u16; MOST_HELD],
-    line: &[u8],
+    f: Frame,
 ) -> Stepped
-    ensures { λ r. ⌜ Steps (stepOf (frameOf (now (line .entry)))) p (listsOf (now (critical .entry)) (now (lowest .entry)) (now (highest .entry)) (now (bound .entry)) (now (tolerated .entry)) (now (containers .entry)) (now (results .entry))) r (listsOf (now (critical .exit)) (now (lowest .exit)) (now (highest .exit)) (now (bound .exit)) (now (tolerated .exit)) (now (containers .exit)) (now (results .exit))) ⌝ }
+    ensures { λ r. ⌜ Steps (stepOf f) p (listsOf (now (critical .entry)) (now (lowest .entry)) (now (highest .entry)) (now (bound .entry)) (now (tolerated .entry)) (now (containers .entry)) (now (results .entry))) r (listsOf (now (critical .exit)) (now (lowest .exit)) (now (highest .exit)) (now (bound .exit)) (now (tolerated .exit)) (now (containers .exit)) (now (results .exit))) ⌝ }
 {
-    let f = frames::frame_of(line);
     match f {
         Frame::Bad => Stepped {
             refusal: Refusal::BadLine,

@@ -4,18 +4,16 @@ use Prim.Native.Nat.{ℕ, _+_, min}
 use native.Mathlib.Omega.{arith}
 use lib.ListN.{length}
 use denote.Ref.{ptr, now}
-use Rattle.rules.proofs.LineLaws.{line-is}
+use Rattle.frames.proofs.Runs.{digits-are}
 use borrow.Author.Needs.{needs}
 use Rattle.frames.proofs.cut.Statement.{statement}
 use Rattle.frames.proofs.cut.Tie as tie
-use Rattle.frames.proofs.line_end.Reads as line-end-reads
-use Rattle.rules.proofs.checks.least.Reads as least-reads
 
 least-requires : tie.Need-least-requires
 least-requires c κs = search needs
 
-line-end-requires : tie.Need-line-end-requires
-line-end-requires c κs = search needs
+digits-end-requires : tie.Need-digits-end-requires
+digits-end-requires c κs = search needs
 
 sub-result : tie.Need-sub-result
 sub-result c = search needs
@@ -32,7 +30,7 @@ returns c =
     let b = c .before .before .least in
     let q : b .result + ptr s .1 ≡ ptr s .1 + min (c .before .before .before .before .args .at) (length (now s)) = omega arith in
     record {
-      bytes = line-is _ _ _ _ (b .ensures) (c .before .line-end .ensures .0);
+      bytes = digits-are _ _ _ _ (b .ensures) (c .before .digits-end .ensures .0);
       place = ap (λ (n : ℕ). (ptr s .0, n)) q;
     }
 
@@ -41,7 +39,7 @@ cut-spec =
     tie.close
     (tie.spec
     least-requires
-    line-end-requires
+    digits-end-requires
     sub-result
     part-result-start
     part-result-end

@@ -4,12 +4,6 @@ use Rattle.rules.specs.Frames.{kindFrame}
 use borrow.Author.Needs.{needs}
 use Rattle.frames.proofs.kind_frame.Statement.{statement}
 use Rattle.frames.proofs.kind_frame.Tie as tie
-use Rattle.frames.proofs.card_frame.Reads as card-frame-reads
-use Rattle.frames.proofs.critical_frame.Reads as critical-frame-reads
-use Rattle.frames.proofs.end_frame.Reads as end-frame-reads
-use Rattle.frames.proofs.lot_frame.Reads as lot-frame-reads
-use Rattle.frames.proofs.range_frame.Reads as range-frame-reads
-use Rattle.frames.proofs.result_frame.Reads as result-frame-reads
 
 lot-frame-requires : tie.Need-lot-frame-requires
 lot-frame-requires c κs = search needs
