@@ -344,11 +344,14 @@ pub fn step(
             tolerated: r,
         } => range_step(p, lowest, highest, bound, tolerated, l, h, b, r),
         Frame::Result { container: c, x } => {
-            let first = opened(p, critical, lowest, highest, bound, tolerated);
+            // a copy of its own, so that p need not stand in memory line for line
+            let q = p;
+            let first = opened(q, critical, lowest, highest, bound, tolerated);
             result_step(p, first, containers, results, c, x)
         }
         Frame::End { count: n } => {
-            let first = opened(p, critical, lowest, highest, bound, tolerated);
+            let q = p;
+            let first = opened(q, critical, lowest, highest, bound, tolerated);
             end_step(p, first, n)
         }
     }
