@@ -46,7 +46,7 @@ fn begins(buf: &[u8], n: usize, text: &[u8]) -> bool {
 
 // Whether a sheet is judged as a text says.
 fn judged_as(sheet: &[u8], expected: &[u8], printed: &mut [u8]) -> bool {
-    let answer = sheet::judge(sheet, printed);
+    let answer = judge::judge(sheet, printed);
     match answer {
         Printed::Length(n) => begins(printed, n, expected),
         Printed::BufferShort => false,

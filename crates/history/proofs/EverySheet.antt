@@ -25,8 +25,8 @@ use Rattle.rules.specs.declared.Card.{Card}
 use Rattle.rules.proofs.Tests.{and-left}
 use Rattle.rules.proofs.CardLaws.{open-card}
 use Rattle.rules.proofs.Bounds.{good-head}
-use Rattle.sheet.specs.Spelling.{Entry, Made, opens, enters, entriesOf}
-use Rattle.sheet.proofs.Spelt.{spelled}
+use Rattle.reading.specs.Spelling.{Entry, Made, opens, enters, entriesOf}
+use Rattle.reading.proofs.Spelt.{spelled}
 use Rattle.history.specs.Verdict.{ReportLines}
 use Rattle.history.specs.EverySheet.{Shown, faulty, few, judged, EverySheet}
 use Rattle.history.proofs.Printed.{lines}

@@ -19,7 +19,7 @@ use Rattle.tally.specs.Calls.{Sound}
 use Rattle.tally.proofs.Steps.{size-is}
 use Rattle.sheet.specs.declared.Answer.{Answer}
 use Rattle.sheet.specs.Promise.{outcomeOf}
-use Rattle.sheet.proofs.Spelt.{spelled}
+use Rattle.reading.proofs.Spelt.{spelled}
 use Rattle.history.specs.Calls.{Calls, ledger}
 use Rattle.history.specs.Run.{Run, read}
 use Rattle.history.specs.Sheets.{SheetsAreRuns}

@@ -12,7 +12,7 @@ use Rattle.rules.specs.Report.{reportOf}
 use Rattle.rules.specs.Reading.{accepted, refused, readOf}
 use Rattle.rules.specs.Printing.{refusedLine}
 use Rattle.rules.specs.declared.Printed.the-variants.{Length}
-use Rattle.sheet.specs.Spelling.{Spelled, entriesOf}
+use Rattle.reading.specs.Spelling.{Spelled, entriesOf}
 use Rattle.history.specs.Steps.{JudgeStep}
 use Rattle.history.specs.Verdict.{ReportLines}
 

@@ -16,7 +16,7 @@ use Rattle.tally.proofs.join.Reads as join-reads
 use Rattle.report.proofs.report.Reads as report-reads
 use Rattle.sheet.specs.declared.Reading.{Reading}
 use Rattle.sheet.proofs.read.Reads as read-reads
-use Rattle.sheet.proofs.judge.Reads as judge-reads
+use Rattle.judge.proofs.judge.Reads as judge-reads
 use Rattle.rules.specs.declared.Printed.{Printed}
 
 abbrev pub FreshStep : Tally → Type 0

@@ -95,7 +95,7 @@ fn printed_code(printed: Printed) -> u64
 pub extern "C" fn gelvorin_judge(sheet: &[u8], buf: &mut [u8]) -> u64
     ensures { λ r. ⌜ left r (now (buf .exit)) ≡ told (printOn (now (sheet .entry)) (now (buf .entry))) ⌝ }
 {
-    printed_code(sheet::judge(sheet, buf))
+    printed_code(judge::judge(sheet, buf))
 }
 
 fn written_code(written: Written) -> u64

@@ -8,7 +8,7 @@ use lib.ListN.{length, length-append}
 use Rattle.rules.specs.Text.{text, decimal, pointed}
 use Rattle.rules.specs.Figures as rule
 use Rattle.rules.specs.Report.{countLine, meanLine, verdictWord, limitText}
-use Rattle.decimal.proofs.Widths.{length-pointed-le}
+use Rattle.rules.proofs.TextLaws.{length-pointed-le}
 use Rattle.findings.specs.declared.Findings.{Findings}
 use Rattle.findings.specs.Findings.{limitOf, verdictOf}
 use Rattle.lines.specs.Texts.{valueLine, valueSize, lotText, verdictLine, findingsText}

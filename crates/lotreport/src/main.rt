@@ -9,7 +9,7 @@ fn main() {
     let mut sheet = io::buffer();
     let n = io::read_full(STDIN_FILENO, &mut sheet);
     let mut text = [0u8; 256];
-    let printed = sheet::judge(&sheet[..n], &mut text);
+    let printed = judge::judge(&sheet[..n], &mut text);
     if let Printed::Length(size) = printed {
         io::write_all(STDOUT_FILENO, &text[..size]);
     }

@@ -14,7 +14,8 @@ use Rattle.rules.specs.Figures as rule
 use Rattle.rules.specs.Cards.{headGood}
 use Rattle.rules.proofs.Tests.{and-left, and-right}
 use Rattle.rules.proofs.PlaceLaws.{total-none}
-use Rattle.rules.proofs.Bounds.{good-head, opens-good}
+use Rattle.rules.proofs.CardLaws.{open-card}
+use Rattle.rules.proofs.Bounds.{good-head}
 use Rattle.tally.specs.declared.Tally.{Tally}
 use Rattle.tally.specs.View.{stored, view}
 use Rattle.tally.specs.Calls.{Sound}
@@ -85,7 +86,7 @@ sound-reportable t s h =
     let n = t .held in
     let vs = t .results in
     let opens = s .good (omega (arith, s .above 0 (omega arith), s .inside 0 (omega arith))) in
-    let good = and-left (headGood a (c .factor) (c .offset) (c .seeds)) _ (opens-good (t .lot) c opens) in
+    let good = and-left (headGood a (c .factor) (c .offset) (c .seeds)) _ (open-card (t .lot) c opens) in
     let k = good-head a c good in
     let f = and-left (leb (c .factor) 50) _ (and-right (leb 10 (c .factor)) _ good) in
     rw (

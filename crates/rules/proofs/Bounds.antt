@@ -1,23 +1,23 @@
 -- H never exceeds 1,250.00 for percentages and 12,500.00 for counts: neither the exact fraction nor the reported decimal. Assumes nothing.
-use mathlib.Core.Path.{_≡_, refl, sym, _∙_}
+use mathlib.Core.Path.{_≡_, sym, _∙_}
 use mathlib.Core.Bool.{Bool, true, false, _&&_, true≢false}
 use Prim.Native.Nat.{ℕ, _+_, _-_, _*_, _≤_, _<_}
 use native.Mathlib.Decide.{decLe}
 use native.Mathlib.Omega.{arith}
 use lib.Dec.{eqb, leb}
-use borrow.Author.Tests.{le-ltb, leb-true, eqb-true, eqb-false}
+use borrow.Author.Tests.{le-ltb, leb-true, eqb-true}
 use Rattle.rules.specs.Choice.{pick}
-use Rattle.rules.specs.Limits.{highestX, mostRows, leastReported}
-use Rattle.rules.specs.Cards.{lotGood, seedsGood, headGood, cardGood, openNumber}
+use Rattle.rules.specs.Limits.{highestX, leastReported}
+use Rattle.rules.specs.Cards.{seedsGood, headGood, openNumber}
 use Rattle.rules.specs.Attributes.{attributeOf, isVoid}
 use Rattle.rules.specs.Places.{Places, largest}
-use Rattle.rules.specs.Figures.{Figures, figuresOf, Fraction, ratio, reportedH, exceeds}
-use Rattle.rules.specs.declared.Attribute.{Attribute}
+use Rattle.rules.specs.Figures.{figuresOf, Fraction, ratio, reportedH, exceeds}
 use Rattle.rules.specs.declared.Card.{Card}
 use Rattle.rules.specs.declared.Lot.{Lot}
 use Rattle.rules.proofs.Tests.{and-left, and-right}
+use Rattle.rules.proofs.CardLaws.{open-card}
 use Rattle.rules.proofs.RoundingLaws.{above-over}
-use Rattle.rules.proofs.SpreadLaws.{Spread, spread-of, Head, highestH, ratio-le, under-positive}
+use Rattle.rules.proofs.SpreadLaws.{spread-of, Head, highestH, ratio-le, under-positive}
 
 -- n is at most 1000 for percentages, and 0 for counts
 seeds-few : (a n : ℕ) → seedsGood a n ≡ true → n ≤ 1000
@@ -36,15 +36,6 @@ good-head a c e =
       factor = leb-true 10 (c .factor) (and-left (leb 10 (c .factor)) _ e);
       seeds = seeds-few a (c .seeds) (and-right (leb (c .offset) 50) _ u);
     }
-
--- a lot and a card that an open accepts are good
-pub opens-good : (l : Lot) (c : Card) → openNumber l c ≡ 0 → cardGood (l .attribute) c ≡ true
-opens-good l c e = by (lotGood (l .attribute) (l .containers)) (cardGood (l .attribute) c) (leb (c .rows) mostRows) e
-  where
-    by : (p q r : Bool) → _≡_ {A = ℕ} (pick p (pick q (pick r 0 5) 4) 3) 0 → q ≡ true
-    by true true r z = refl
-    by true false r z = absurd (eqb-false 4 0 refl z)
-    by false q r z = absurd (eqb-false 3 0 refl z)
 
 -- The bounds, for every lot and card that an open accepts and every map of at least five results, none too high, whose mean is not void.
 pub record Bounded (highest : ℕ) (q : Fraction) (g : ℕ) : Type 0 where
@@ -69,7 +60,7 @@ pub bounds : (l : Lot) (c : Card) (n : ℕ) (f : Places) → openNumber l c ≡ 
     → isVoid (attributeOf (l .attribute)) (figuresOf n f .count) (figuresOf n f .sum) ≡ false
     → Bounded (highestH (attributeOf (l .attribute))) (ratio (attributeOf (l .attribute)) c (figuresOf n f)) (c .offset)
 bounds l c n f opens high many valid =
-    let h = good-head (l .attribute) c (and-left (headGood (l .attribute) (c .factor) (c .offset) (c .seeds)) _ (opens-good l c opens)) in
+    let h = good-head (l .attribute) c (and-left (headGood (l .attribute) (c .factor) (c .offset) (c .seeds)) _ (open-card l c opens)) in
     let a = attributeOf (l .attribute) in
     reported-le (highestH a) (ratio a c (figuresOf n f)) (c .offset)
     (under-positive a c (figuresOf n f) valid (omega arith) (omega (arith, h .factor)))

@@ -1,8 +1,8 @@
 -- The sum of squares against the square of the sum, and what follows for V/W: D is no number below zero, the number under V/W is
 -- not zero where the mean is not void, and H has its bounds. Assumes nothing.
-use mathlib.Core.Path.{_≡_, refl, sym, ap, _∙_}
+use mathlib.Core.Path.{_≡_, refl, ap}
 use mathlib.Core.Bool.{Bool, true, false, _||_, true≢false}
-use Prim.Native.Nat.{ℕ, suc, zero, _+_, _*_, _-_, _≤_, _<_, max}
+use Prim.Native.Nat.{ℕ, suc, zero, _+_, _*_, _-_, _≤_, _<_}
 use native.Mathlib.Nat.{mul-le-mul-left, mul-le-mul-right, mul-le-mul, mul-pos}
 use native.Mathlib.Decide.{decLe}
 use native.Mathlib.Omega.{arith}
@@ -11,7 +11,7 @@ use borrow.Author.Tests.{ltb-false}
 use Rattle.rules.specs.Limits.{highestX}
 use Rattle.rules.specs.Places.{Place, Places, free, holds, total, one, value, square, largest}
 use Rattle.rules.specs.Attributes.{isVoid}
-use Rattle.rules.specs.Figures.{Figures, figuresOf, deviation, Fraction, ofPercentages, ofCounts, ratio}
+use Rattle.rules.specs.Figures.{Figures, figuresOf, deviation, ofPercentages, ofCounts, ratio}
 use Rattle.rules.specs.declared.Attribute.{Attribute}
 use Rattle.rules.specs.declared.Attribute.the-variants.{Purity, Germination, Count}
 use Rattle.rules.specs.declared.Card.{Card}

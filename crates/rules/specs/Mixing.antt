@@ -1,5 +1,5 @@
 -- Which component lots may be mixed (002, 10.3): the range of their results against a tolerated R.
-use mathlib.Core.Bool.{Bool, true, false, _&&_}
+use mathlib.Core.Bool.{_&&_}
 use mathlib.Core.List.{List, [], _∷_}
 use Prim.Native.Nat.{ℕ, _-_, max, min}
 use lib.Dec.{leb}

@@ -6,7 +6,7 @@ use Rattle.rules.specs.Choice.{pick}
 use Rattle.rules.specs.Limits.{leastReported}
 use Rattle.rules.specs.Numbers.{Told}
 use Rattle.rules.specs.Text.{text, decimal, laidIn}
-use Rattle.rules.specs.Ledger.{Ledger, held}
+use Rattle.rules.specs.Ledger.{held}
 use Rattle.rules.specs.Report.{reportOf}
 use Rattle.rules.specs.Reading.{Outcome, accepted, refused, readOf}
 

@@ -1,15 +1,20 @@
 // The plain data of a lot's results: attribute, lot, card, the frames of a sheet, the numbered refusals, and the answers of
 // the calls. What each means is said in specs/.
 ghost use mathlib.Core.Path.{_≡_};
-ghost use Prim.Native.Nat.{_≤_, _<_, _^_};
+ghost use Prim.Native.Nat.{_≤_, _<_};
 ghost use Rattle.rules.specs.Numbers.{numberOf};
 ghost use Rattle.rules.specs.Attributes.{attributeOf, isVoid, placesOfX, meanPlaces, meanScale};
 
-pub mod cards;
 pub mod checks;
 
 // The most results that a tally holds, that a join may come to, and that N may be in a frame.
 pub const MOST_HELD: usize = 60;
+
+// The fewest results that are reported, and the smallest N in a frame of the card.
+pub const LEAST_REPORTED: usize = 5;
+
+// The highest result, and the highest bound of a range row.
+pub const HIGHEST_X: u16 = 10000;
 
 // Places for critical values: one for each N from 0 on.
 pub const CRITICALS: usize = 61;

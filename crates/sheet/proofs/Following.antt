@@ -1,22 +1,26 @@
 -- The lines of a sheet one after the other: one law for each way the reader goes.
 use mathlib.Core.Path.{_≡_, refl, sym, ap, _∙_}
+use mathlib.Core.Bool.{Bool}
 use mathlib.Core.List.{List}
 use Prim.Native.Nat.{ℕ, _+_, _-_, _≤_, _<_}
 use native.Mathlib.Omega.{arith}
 use lib.ListN.{length, drop}
-use borrow.Author.Tests.{eq-eqb, ne-eqb}
+use borrow.Author.Tests.{eq-eqb, ne-eqb, le-ltb}
+use Rattle.rules.specs.Choice.{pick}
 use Rattle.rules.specs.Numbers.{numberOf}
+use Rattle.rules.specs.Ledger.{freshLedger}
 use Rattle.rules.specs.Lines.{linesOf, lineAt}
 use Rattle.rules.specs.Frames.{frameOf}
 use Rattle.rules.specs.Reading.{State, Outcome, accepted, refused, stepOf, after, readFrom}
+use Rattle.rules.specs.declared.Card.{Card}
 use Rattle.rules.proofs.LineLaws.{lines-ended, lines-unended, lines-none, line-within}
-use Rattle.tally.specs.View.{view}
-use Rattle.tally.specs.Calls.{Sound}
-use Rattle.tally.specs.declared.Tally.{Tally}
+use Rattle.tally.specs.View.{tallyOf, view}
 use Rattle.sheet.specs.declared.Answer.the-variants.{Accepted}
 use Rattle.sheet.specs.declared.Reading.{Reading}
-use Rattle.sheet.specs.declared.steps.Stepped.{Stepped}
-use Rattle.sheet.specs.Promise.{stateOf, Took, Tells}
+use Rattle.steps.specs.declared.Progress.{Progress}
+use Rattle.steps.specs.declared.Stepped.{Stepped}
+use Rattle.steps.specs.Promise.{Lists, cardOf, reached, stateOf, Proper, Took}
+use Rattle.sheet.specs.Promise.{Tells}
 
 -- what is left of the sheet s from a on, in the state t, the next line having the number n
 unfoldable pub left : List ℕ → ℕ → State → ℕ → Outcome
@@ -41,11 +45,11 @@ module _ (s d : List ℕ) (a : ℕ) (is : d ≡ lineAt s a) where
     unfolding left readFrom
     left-line h = rw (is, lines-ended s a (omega (arith, ap length is)), number) refl
 
-    module _ (h : a + length d < length s) (r : Stepped) (k : Took (stepOf (frameOf d) t) r) (m : ℕ) (e : m ≡ numberOf (r .refusal)) where
+    module _ (h : a + length d < length s) (r : Stepped) (l : Lists) (k : Took (stepOf (frameOf d) t) r l) (m : ℕ) (e : m ≡ numberOf (r .refusal)) where
       pub left-stopped : (m ≡ 0 → ⊥) → left s a t n ≡ refused (numberOf (r .refusal)) n
       left-stopped z = left-line h ∙ rw (← k .right, ← e, ne-eqb m 0 z) refl
 
-      pub left-went : m ≡ 0 → left s a t n ≡ left s (a + length d + 1) (stateOf (r .progress)) (n + 1)
+      pub left-went : m ≡ 0 → left s a t n ≡ left s (a + length d + 1) (stateOf (r .progress) l) (n + 1)
       unfolding left
       left-went z =
           let q : n + 1 - 1 ≡ n = omega arith in
@@ -60,5 +64,13 @@ module _ (s : List ℕ) (a : ℕ) (t : State) (n : ℕ) (from : 1 ≤ n) (over :
   unfolding left readFrom
   left-early e = let q : n - 1 + 1 ≡ n = omega arith in rw (lines-none s a over, ne-eqb (t .before) 6 e, q) refl
 
-pub tells-tally : (v : Outcome) (t : Tally) (n : ℕ) → v ≡ accepted (view t) n → Sound t → Tells v (record { answer = Accepted n; tally = t })
-tells-tally v t n e h = record { right = sym e; sound = h; empty = tt }
+-- the sheet is read to its end: the tally is what the lines came to
+pub tells-tally : (v : Outcome) (p : Progress) (l : Lists) (c : Card) (n : ℕ) → Proper p l → p .before ≡ 6 → c ≡ cardOf p l → v ≡ accepted (stateOf p l .ledger) n
+    → Tells v (record { answer = Accepted n; tally = tallyOf (p .lot) c (l .containers) (l .results) (p .held) })
+tells-tally v p l c n h z q e =
+    rw q
+    (record {
+      right = sym (e ∙ ap (λ (b : Bool). accepted (pick b freshLedger (view (reached p l))) n) (le-ltb (p .before) 5 (omega arith)));
+      sound = h .sound (omega arith);
+      empty = tt;
+    })

@@ -1,9 +1,2 @@
-pub mod Going
-pub mod Taking
+pub mod Fresh
 pub mod Following
-pub mod Falling
-pub mod Prefix
-pub mod Spelt
-pub mod Ready
-pub mod Judging
-pub mod Longest

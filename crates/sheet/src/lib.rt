@@ -1,16 +1,12 @@
-// A sheet's bytes in; its tally or its first fault out, or all that lotreport prints for them.
-ghost use mathlib.Core.Path.{_≡_};
-ghost use Rattle.rules.specs.Numbers.{numberOf, printedAnswer};
-ghost use Rattle.rules.specs.Printing.{printOn};
+// A sheet's bytes in; its tally or its first fault out.
+ghost use Rattle.rules.specs.Numbers.{numberOf};
 ghost use Rattle.rules.specs.Reading.{refused as Reading·refused, readOf};
 ghost use Rattle.sheet.specs.Promise.{Tells};
-use rules::Printed;
+use rules::CRITICALS;
+use rules::MOST_HELD;
+use rules::MOST_ROWS;
 use rules::Refusal;
-use rules::Reported;
 use tally::Tally;
-
-mod refusing;
-mod steps;
 
 pub enum Answer {
     // with the number of lines
@@ -38,6 +34,13 @@ fn refused(e: Refusal, line: usize) -> Reading
 pub fn read(sheet: &[u8]) -> Reading
     ensures { λ r. ⌜ Tells (readOf (now (sheet .entry))) r ⌝ }
 {
+    let mut critical: [u32; CRITICALS] = [0; CRITICALS];
+    let mut lowest: [u16; MOST_ROWS] = [0; MOST_ROWS];
+    let mut highest: [u16; MOST_ROWS] = [0; MOST_ROWS];
+    let mut bound: [u16; MOST_ROWS] = [0; MOST_ROWS];
+    let mut tolerated: [u16; MOST_ROWS] = [0; MOST_ROWS];
+    let mut containers: [u16; MOST_HELD] = [0; MOST_HELD];
+    let mut results: [u16; MOST_HELD] = [0; MOST_HELD];
     let mut p = steps::start();
     let mut line: usize = 1;
     let mut at: usize = 0;
@@ -47,7 +50,17 @@ pub fn read(sheet: &[u8]) -> Reading
         if sheet.len() <= end {
             return refused(Refusal::BadLine, line);
         }
-        let s = steps::step(p, digits);
+        let s = steps::step(
+            p,
+            &mut critical,
+            &mut lowest,
+            &mut highest,
+            &mut bound,
+            &mut tolerated,
+            &mut containers,
+            &mut results,
+            digits,
+        );
         let e = s.refusal;
         if e.number() != 0 {
             return refused(e, line);
@@ -58,32 +71,18 @@ pub fn read(sheet: &[u8]) -> Reading
         at = end + 1;
     }
     if p.before == 6 {
-        let t = p.tally;
+        let lot = p.lot;
+        let card = steps::card_of(p, &critical, &lowest, &highest, &bound, &tolerated);
         return Reading {
             answer: Answer::Accepted(line - 1),
-            tally: t,
+            tally: Tally {
+                lot: lot,
+                card: card,
+                containers: containers,
+                results: results,
+                held: p.held,
+            },
         };
     }
     refused(Refusal::OutOfTurn, line)
-}
-
-// What lotreport prints for a sheet: the report of its tally, or the line of its first fault. A sheet with too few results is
-// refused at its last line, that of the 06 frame.
-pub fn judge(sheet: &[u8], buf: &mut [u8]) -> Printed
-    ensures { λ r. ⌜ printedAnswer r (now (buf .exit)) ≡ printOn (now (sheet .entry)) (now (buf .entry)) ⌝ }
-{
-    let reading = read(sheet);
-    let answer = reading.answer;
-    let t = reading.tally;
-    match answer {
-        Answer::Refused(e, line) => refusing::print(buf, e.number(), line),
-        Answer::Accepted(lines) => {
-            let told = report::report(t, buf);
-            match told {
-                Reported::Length(n) => Printed::Length(n),
-                Reported::TooFew => refusing::print(buf, 15, lines),
-                Reported::BufferShort => Printed::BufferShort,
-            }
-        }
-    }
 }

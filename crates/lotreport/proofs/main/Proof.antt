@@ -2,14 +2,14 @@
 use mathlib.Core.Path.{sym}
 use native.Mathlib.Omega.{arith}
 use lib.Seq.{length-take-le}
-use Rattle.sheet.proofs.Longest.{printed-within}
+use Rattle.reading.proofs.Longest.{printed-within}
 use borrow.Author.Needs.{needs}
 use Rattle.lotreport.proofs.main.Statement.{statement}
 use Rattle.lotreport.proofs.main.Tie as tie
 use Rattle.io.proofs.buffer.Reads as buffer-reads
 use Rattle.io.proofs.read_full.Reads as read-full-reads
 use Rattle.io.proofs.write_all.Reads as write-all-reads
-use Rattle.sheet.proofs.judge.Reads as judge-reads
+use Rattle.judge.proofs.judge.Reads as judge-reads
 
 buffer-requires : tie.Need-buffer-requires
 buffer-requires c κs = search needs

@@ -1,9 +1,8 @@
 -- `sheet::refused` meets its contract.
-use Rattle.sheet.proofs.Taking.{refused-tells}
+use Rattle.sheet.proofs.Fresh.{refused-tells}
 use borrow.Author.Needs.{needs}
 use Rattle.sheet.proofs.refused.Statement.{statement}
 use Rattle.sheet.proofs.refused.Tie as tie
-use Rattle.tally.proofs.fresh.Reads as fresh-reads
 
 fresh-requires : tie.Need-fresh-requires
 fresh-requires c κs = search needs

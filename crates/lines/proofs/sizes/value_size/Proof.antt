@@ -2,7 +2,7 @@
 use mathlib.Core.Path.{refl}
 use native.Mathlib.Omega.{arith}
 use Rattle.lines.specs.Texts.{valueSize}
-use Rattle.decimal.proofs.Widths.{length-pointed-le}
+use Rattle.rules.proofs.TextLaws.{length-pointed-le}
 use borrow.Author.Needs.{needs}
 use Rattle.lines.proofs.sizes.value_size.Statement.{statement}
 use Rattle.lines.proofs.sizes.value_size.Tie as tie

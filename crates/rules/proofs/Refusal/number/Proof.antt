@@ -3,8 +3,6 @@ use Rattle.rules.specs.Numbers.{numberOf}
 use borrow.Author.Needs.{needs}
 use Rattle.rules.proofs.Refusal.number.Statement.{statement}
 use Rattle.rules.proofs.Refusal.number.Tie as tie
-use Rattle.rules.proofs.Refusal.number.Reads as reads
-use Rattle.rules.proofs.Refusal.number.Lts as lts
 
 -- src/lib.rt:150:34
 enum-told : tie.Need-enum-told

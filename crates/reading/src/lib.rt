@@ -1,0 +1,1 @@
+// No functions: what the definition of reading a sheet comes to, whoever reads it.
