@@ -1,7 +1,6 @@
 -- `lines::sizes::size` meets its contract. Assumes nothing.
 use native.Mathlib.Omega.{arith}
-use Rattle.rules.proofs.TextLaws.{length-decimal}
-use Rattle.rules.proofs.TextLaws.{length-pointed-le}
+use Rattle.rules.proofs.TextLaws.{length-decimal, length-pointed-le}
 use Rattle.lines.proofs.Lengths.{length-findings}
 use borrow.Author.Needs.{needs}
 use Rattle.lines.proofs.sizes.size.Statement.{statement}
