@@ -1,17 +1,18 @@
-// The AOSA tables 14G and 14H as 004 prints them.
+// The AOSA tables 14G and 14H as 004 prints them, and how they are read. The compiler lays a constant array out anew at each use,
+// so that a table has numbers no wider than it needs and is used once in a call.
 ghost use mathlib.Core.Path.{_≡_};
-ghost use Prim.Native.Nat.{_≤_, _<_};
+ghost use Prim.Native.Nat.{_≤_};
 ghost use lib.ListN.{getD};
-ghost use Rattle.rules.specs.Tolerance.{table14G, table14H, row};
+ghost use Rattle.rules.specs.Tolerance.{table14G, table14H, differenceFor};
 
 // A row of Table 14H: the largest average that it serves, and the tolerated difference.
 pub struct Row {
-    pub top: u32,
-    pub tolerated: u32,
+    pub top: u16,
+    pub tolerated: u16,
 }
 
 // The place of the last row of Table 14H.
-pub const LAST_ROW: usize = 57;
+const LAST_ROW: usize = 57;
 
 // Table 14H.
 const TABLE_14H: [Row; 58] = [
@@ -250,7 +251,7 @@ const TABLE_14H: [Row; 58] = [
 ];
 
 // Table 14G, column B: the most seeds found that are within tolerance, for each label from 0 on.
-const TABLE_14G: [u32; 101] = [
+const TABLE_14G: [u8; 101] = [
     2,
     2,
     4,
@@ -354,17 +355,26 @@ const TABLE_14G: [u32; 101] = [
     116,
 ];
 
-// The row at a place of Table 14H.
-pub fn row_at(i: usize) -> Row
-    requires { ⌜ i < 58 ⌝ }
-    ensures { λ r. ⌜ (r .top ≡ getD table14H i (row 0 0) .top) × (r .tolerated ≡ getD table14H i (row 0 0) .tolerated) ⌝ }
+// The tolerated difference for an average: that of the first row whose top is at least the average. As the tops rise, it stands
+// behind all rows with a top below the average, so that its place is their number.
+pub fn difference_for(average: u16) -> u16
+    requires { ⌜ average ≤ 501 ⌝ }
+    ensures { λ r. ⌜ r ≡ differenceFor table14H average ⌝ }
 {
     let rows = TABLE_14H;
-    rows[i]
+    let mut below: u16 = 0;
+    let mut i = 0;
+    while i < LAST_ROW {
+        if rows[i].top < average {
+            below += 1;
+        }
+        i += 1;
+    }
+    rows[below as usize].tolerated
 }
 
 // Column B for a label.
-pub fn most_found(labelled: u32) -> u32
+pub fn most_found(labelled: u32) -> u8
     requires { ⌜ labelled ≤ 100 ⌝ }
     ensures { λ r. ⌜ r ≡ getD table14G labelled 0 ⌝ }
 {

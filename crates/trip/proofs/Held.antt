@@ -17,7 +17,6 @@ use Rattle.rules.specs.declared.Lot.{Lot}
 use Rattle.rules.specs.declared.Card.{Card}
 use Rattle.rules.specs.declared.Frame.the-variants as frame
 use Rattle.rules.proofs.PlaceLaws.{put-same, put-other, put-self, total-put, total-none}
-use Rattle.writer.proofs.Ascending.{total-rise}
 use Rattle.trip.proofs.Spelled.{result-spells, end-spells}
 use Rattle.trip.proofs.Reached.{Reaches, reach-none, reach-then, reach-line}
 
@@ -62,6 +61,15 @@ upto-size f (suc n) m h =
 pub total-next : (f : Places) (n : ℕ) → total one (suc n) f ≡ total one n f + one (f (suc n))
 unfolding total
 total-next f n = refl
+
+total-rise : (f : Places) (a b : ℕ) → a ≤ b → total one a f ≤ total one b f
+unfolding total
+total-rise f a zero h = let z : a ≡ 0 = omega arith in rw z (omega arith)
+total-rise f a (suc b) h = go (decLe a b) (λ (q : a ≤ b). total-rise f a b q)
+  where
+    go : Dec (a ≤ b) → (a ≤ b → total one a f ≤ total one b f) → total one a f ≤ total one (suc b) f
+    go (yes q) r = omega (arith, r q)
+    go (no q) r = let z : a ≡ suc b = omega arith in rw z (omega arith)
 
 upto-free : (f : Places) (n : ℕ) → f (suc n) ≡ free → upto f n ≡ upto f (suc n)
 unfolding upto

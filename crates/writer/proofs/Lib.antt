@@ -1,5 +1,5 @@
 pub mod Lines
 pub mod Lengths
-pub mod Above
+pub mod Rank
 pub mod Ascending
 pub mod Whole

@@ -26,6 +26,9 @@ returns c = outside (c .before .args .labelled) (c .before .args .found) (c .if1
 most-found-requires : tie.Need-most-found-requires
 most-found-requires c κs = search needs
 
+cast-if2 : tie.Need-cast-if2
+cast-if2 c = search needs
+
 returns-2 : tie.Need-returns-2
 returns-2 c =
     within _ (c .before .before .before .args .found) _ (c .before .before .if1 .left) (c .before .most-found .ensures) (c .if2 .taken)
@@ -35,4 +38,4 @@ returns-3 c =
     out _ (c .before .before .before .args .found) _ (c .before .before .if1 .left) (c .before .most-found .ensures) (c .if2 .left)
 
 pub label-spec : {M : Type 1} → statement M
-label-spec = tie.close (tie.spec returns most-found-requires returns-2 returns-3)
+label-spec = tie.close (tie.spec returns most-found-requires cast-if2 returns-2 returns-3)

@@ -40,8 +40,14 @@ returns-2 c =
 distance-of-requires : tie.Need-distance-of-requires
 distance-of-requires c κs = search needs
 
+cast-difference-for : tie.Need-cast-difference-for
+cast-difference-for c = search needs
+
 difference-for-requires : tie.Need-difference-for-requires
 difference-for-requires c κs = search needs
+
+cast-if3 : tie.Need-cast-if3
+cast-if3 c = search needs
 
 returns-3 : tie.Need-returns-3
 returns-3 c =
@@ -59,6 +65,8 @@ pair-spec =
     returns
     returns-2
     distance-of-requires
+    cast-difference-for
     difference-for-requires
+    cast-if3
     returns-3
     returns-4)
