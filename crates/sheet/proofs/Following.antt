@@ -7,34 +7,31 @@ use native.Mathlib.Decide.{decLe}
 use native.Mathlib.Omega.{arith}
 use lib.ListN.{length, drop}
 use borrow.Author.Tests.{eq-eqb, ne-eqb, lt-ltb, le-ltb}
-use Rattle.rules.specs.Choice.{pick}
 use Rattle.rules.specs.Numbers.{numberOf}
-use Rattle.rules.specs.Ledger.{freshLedger}
 use Rattle.rules.specs.Lines.{linesOf, lineAt}
 use Rattle.rules.specs.Frames.{frameOf}
-use Rattle.rules.specs.Reading.{State, Next, goes, stops, Outcome, accepted, refused, stepOf, after, readFrom}
+use Rattle.rules.specs.Reading.{State, Next, goes, stops, Outcome, refused, stepOf, after, readFrom}
 use Rattle.rules.specs.Fields.{allDigits}
 use Rattle.rules.specs.declared.Frame.{Frame}
+use Rattle.rules.specs.declared.Refusal.{Refusal}
+use Rattle.rules.specs.declared.Refusal.the-variants.{Accepted as NoFault}
 use Rattle.rules.specs.declared.Frame.the-variants.{Bad}
 use Rattle.rules.proofs.LineLaws.{lines-ended, lines-unended, lines-none}
 use Rattle.frames.specs.declared.Line.{Line}
 use Rattle.frames.specs.Cutting.{LineAt}
 use Rattle.reading.proofs.Going.{never}
-use Rattle.tally.specs.View.{view}
 use Rattle.tally.specs.declared.Tally.{Tally}
 use Rattle.sheet.specs.declared.Answer.the-variants.{Accepted}
 use Rattle.sheet.specs.declared.Reading.{Reading}
 use Rattle.steps.specs.declared.Progress.{Progress}
 use Rattle.steps.specs.declared.Stepped.{Stepped}
 use Rattle.steps.specs.Promise.{Lists, reached, stateOf, nextOf, Proper, Took}
-use Rattle.sheet.specs.Promise.{Tells}
+use Rattle.sheet.specs.declared.Taken.{Taken}
+use Rattle.sheet.specs.Promise.{toldBy, Tells}
 
 -- what is left of the sheet s from a on, in the state t, the next line having the number n
 unfoldable pub left : List ℕ → ℕ → State → ℕ → Outcome
 left s a t n = readFrom (linesOf (drop a s)) t (n - 1)
-
-pub tells-as : (v w : Outcome) (r : Reading) → v ≡ w → Tells w r → Tells v r
-tells-as v w r e h = record { right = h .right ∙ sym e; sound = h .sound; empty = h .empty }
 
 stops-same : (i j : ℕ) → stops i ≡ stops j → i ≡ j
 stops-same i j q = cc
@@ -106,22 +103,35 @@ module _ (s : List ℕ) (a : ℕ) (t : State) (n : ℕ) (from : 1 ≤ n) (h : a 
           let q : n + 1 - 1 ≡ n = omega arith in
           left-line ended-line ∙ ap (λ (x : Next). after x n rest) (by-frame (frameOf (lineAt s a)) (ended-frame ended-line) ∙ go-on) ∙ rw (line-end, q) refl
 
-module _ (s : List ℕ) (a : ℕ) (t : State) (n : ℕ) (from : 1 ≤ n) (over : length s ≤ a) where
-  pub left-over : t .before ≡ 6 → left s a t n ≡ accepted (t .ledger) (n - 1)
-  unfolding left readFrom
-  left-over e = rw (lines-none s a over, eq-eqb (t .before) 6 e) refl
+-- ---- the lines that were taken
+-- the first faulty line
+pub taken-stopped : (v : Outcome) (e : Refusal) (n : ℕ) (p : Progress) (l : Lists) (m : ℕ) → m ≡ numberOf e → (m ≡ 0 → ⊥) → v ≡ refused (numberOf e) n → v ≡ toldBy (record { refusal = e; line = n; progress = p }) l
+unfolding toldBy
+taken-stopped v e n p l m i z q = q ∙ sym (rw (← i, ne-eqb m 0 z) refl)
 
-  pub left-early : (t .before ≡ 6 → ⊥) → left s a t n ≡ refused 2 n
-  unfolding left readFrom
-  left-early e = let q : n - 1 + 1 ≡ n = omega arith in rw (lines-none s a over, ne-eqb (t .before) 6 e, q) refl
+-- all of them
+pub taken-all : (s : List ℕ) (a : ℕ) (n : ℕ) (p : Progress) (l : Lists) → 1 ≤ n → length s ≤ a → left s a (stateOf p l) n ≡ toldBy (record { refusal = NoFault; line = n; progress = p }) l
+unfolding left readFrom toldBy
+taken-all s a n p l from over = let q : n - 1 + 1 ≡ n = omega arith in rw (lines-none s a over, q) refl
 
--- the sheet is read to its end: the tally is what the lines came to
-pub tells-tally : (v : Outcome) (p : Progress) (l : Lists) (u : Tally) (n : ℕ) → Proper p l → p .before ≡ 6 → u ≡ reached p l → v ≡ accepted (stateOf p l .ledger) n
-    → Tells v (record { answer = Accepted n; tally = u })
-tells-tally v p l u n h z q e =
-    rw q
-    (record {
-      right = sym (e ∙ ap (λ (b : Bool). accepted (pick b freshLedger (view (reached p l))) n) (le-ltb (p .before) 5 (omega arith)));
-      sound = h .sound (omega arith);
-      empty = tt;
-    })
+-- what is told of the sheet where the lines r were taken, with the lists l
+module _ (v : Outcome) (r : Taken) (l : Lists) (m : ℕ) (i : m ≡ numberOf (r .refusal)) (is : v ≡ toldBy r l) where
+  pub told-refused : (m ≡ 0 → ⊥) → (w : Reading) → Tells (refused (numberOf (r .refusal)) (r .line)) w → Tells v w
+  unfolding toldBy
+  told-refused z w h = record { right = h .right ∙ sym (is ∙ rw (← i, ne-eqb m 0 z) refl); sound = h .sound; empty = h .empty }
+
+  module _ (z : m ≡ 0) where
+    pub told-early : (r .progress .before ≡ 6 → ⊥) → (w : Reading) → Tells (refused 2 (r .line)) w → Tells v w
+    unfolding toldBy
+    told-early e w h = record { right = h .right ∙ sym (is ∙ rw (← i, z, ne-eqb (r .progress .before) 6 e) refl); sound = h .sound; empty = h .empty }
+
+    -- the tally is what the lines came to
+    pub told-tally : r .progress .before ≡ 6 → Proper (r .progress) l → (u : Tally) → u ≡ reached (r .progress) l → Tells v (record { answer = Accepted (r .line - 1); tally = u })
+    unfolding toldBy
+    told-tally e h u q =
+        rw q
+        (record {
+          right = sym (is ∙ rw (← i, z, e) refl);
+          sound = h .sound (omega (arith, e));
+          empty = tt;
+        })
