@@ -1,0 +1,6 @@
+pub mod ListLaws
+pub mod WidthLaws
+pub mod NumberLaws
+pub mod TextLaws
+pub mod StepLaws
+pub mod ChangeLaws

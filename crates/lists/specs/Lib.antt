@@ -1,0 +1,6 @@
+pub mod Bytes
+pub mod Opening
+pub mod Widths
+pub mod Texts
+pub mod Changes
+pub mod Steps
