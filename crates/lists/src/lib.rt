@@ -1,5 +1,7 @@
 // A list of calls on two tallies as bytes, made one after the other; compare/src/calls.rs says how a list and its answers are
-// written.
+// written. A test library: `compare` links it. Each single call is promised to be the ledger's, in the tally and in the bytes of its
+// answer; the loop over a list promises no more than that it ends and is safe, since what a whole list comes to is what the comparison
+// tries, and a wrong loop is stopped there.
 ghost use mathlib.Core.Path.{_≡_};
 ghost use Prim.Native.Nat.{_≤_};
 ghost use lib.ListN.{length, getD};
