@@ -4,7 +4,7 @@ use mathlib.Core.List.{List}
 use Prim.Native.Nat.{ℕ}
 use borrow.Author.Tests.{ne-eqb}
 use lib.ListN.{getD}
-use Rattle.rules.specs.Ledger.{openOn, enterOn, withdrawOn}
+use Rattle.rules.specs.Ledger.{enterOn, withdrawOn}
 use Rattle.rules.specs.declared.Lot.{Lot}
 use Rattle.rules.specs.declared.Card.{Card}
 use Rattle.tally.specs.declared.Tally.{Tally}

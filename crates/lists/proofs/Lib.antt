@@ -4,3 +4,4 @@ pub mod NumberLaws
 pub mod TextLaws
 pub mod StepLaws
 pub mod ChangeLaws
+pub mod RunLaws

@@ -1,9 +1,9 @@
 -- One call on a tally, from what its parts promise. Assumes nothing.
-use mathlib.Core.Path.{_≡_, ap, _∙_}
+use mathlib.Core.Path.{_≡_, ap}
 use mathlib.Core.List.{List, [], _++_, append-nil}
 use Prim.Native.Nat.{ℕ, _-_, _≤_, _<_}
 use native.Mathlib.Omega.{arith}
-use borrow.Author.Tests.{lt-ltb, le-ltb, ne-eqb}
+use borrow.Author.Tests.{lt-ltb, le-ltb}
 use lib.ListN.{length, getD, set, take, drop, length-drop, drop-of-length-le}
 use lib.Seq.{take-all}
 use native.Mathlib.Decide.{ℕ-discrete}
@@ -16,7 +16,7 @@ use Rattle.tally.specs.declared.Outcome.{Outcome}
 use Rattle.tally.specs.View.{view}
 use Rattle.tally.specs.Calls.{Answers, Opened, Sound}
 use Rattle.lists.specs.Changes.{changeOn}
-use Rattle.lists.specs.Texts.{textOn, headed, told, Texts}
+use Rattle.lists.specs.Texts.{headed, Texts}
 use Rattle.lists.specs.Steps.{Took, judgedStep, textStep, stepOn}
 use Rattle.lists.specs.declared.texts.Texted.{Texted}
 

@@ -1,5 +1,5 @@
 -- What is known of a call that stands whole in a list. Assumes nothing.
-use mathlib.Core.Path.{_≡_, refl, sym, ap, _∙_}
+use mathlib.Core.Path.{_≡_, refl, ap, _∙_}
 use mathlib.Core.Bool.{Bool, true, false, _&&_}
 use mathlib.Core.List.{List}
 use Prim.Native.Nat.{ℕ, _+_, _-_, _≤_, _<_}
@@ -38,6 +38,20 @@ number-behind l w n =
     let some = simp (ne-eqb k 4 n) at (w .some) in
     let all = simp (ne-eqb k 4 n) at (w .bytes) in
     omega (arith, by-tests (eqb k 1) (eqb k 2) (eqb k 3) (eqb k 5) (eqb k 6) some)
+
+-- every call has its first two bytes
+pub two-bytes : (k : ℕ) → 1 ≤ kindWidth k → 2 ≤ kindWidth k
+unfolding kindWidth
+two-bytes k h = by (eqb k 1) (eqb k 2) (eqb k 3) (eqb k 4) (eqb k 5) (eqb k 6) h
+  where
+    by : (a b c d e f : Bool) → 1 ≤ pick a 1026 (pick b 6 (pick c 4 (pick d 2 (pick e 4 (pick f 4 0))))) → 2 ≤ pick a 1026 (pick b 6 (pick c 4 (pick d 2 (pick e 4 (pick f 4 0)))))
+    by true b c d e f h = omega arith
+    by false true c d e f h = omega arith
+    by false false true d e f h = omega arith
+    by false false false true e f h = omega arith
+    by false false false false true f h = omega arith
+    by false false false false false true h = omega arith
+    by false false false false false false h = absurd (omega arith)
 
 -- what a chosen number that is not 0 tells of the test
 chosen : (b : Bool) (k w : ℕ) → w ≡ pick b k 0 → (w ≡ 0 → ⊥) → (b ≡ true) × (w ≡ k)
@@ -108,6 +122,7 @@ pub record Next (list : List ℕ) (from w : ℕ) : Type 0 where
   pub end : from + w ≤ length list
   pub whole : Whole (take (from + w - from) (drop from list))
   pub kind : getD (take (from + w - from) (drop from list)) 0 0 ≡ getD list from 0
+  pub name : getD (take (from + w - from) (drop from list)) 1 0 ≡ getD list (from + 1) 0
 
 pub next-call : (list : List ℕ) (from w : ℕ) → from < length list → w ≡ callWidth (take (length list - from) (drop from list)) → (w ≡ 0 → ⊥) → Next list from w
 next-call list from w h e n =
@@ -121,4 +136,5 @@ next-call list from w h e n =
       end = omega (arith, s .within);
       whole = rw same (s .whole);
       kind = rw same (getD-take w (drop from list) 0 0 (omega arith) ∙ getD-drop from list 0 0 ∙ ap (λ (i : ℕ). getD list i 0) (add-zero from));
+      name = rw same (getD-take w (drop from list) 1 0 (omega (arith, two-bytes (getD (drop from list) 0 0) (omega (arith, s .width)), s .width)) ∙ getD-drop from list 1 0);
     }

@@ -4,3 +4,4 @@ pub mod Widths
 pub mod Texts
 pub mod Changes
 pub mod Steps
+pub mod Runs

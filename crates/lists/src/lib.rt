@@ -1,14 +1,13 @@
 // A list of calls on two tallies as bytes, made one after the other; compare/src/calls.rs says how a list and its answers are
-// written. A test library: `compare` links it. Each single call is promised to be the ledger's, in the tally and in the bytes of its
-// answer; the loop over a list promises no more than that it ends and is safe, since what a whole list comes to is what the comparison
-// tries, and a wrong loop is stopped there.
+// written, and specs/Runs.antt what it comes to. A test library, which `compare` links.
 ghost use mathlib.Core.Path.{_≡_};
 ghost use Prim.Native.Nat.{_≤_};
 ghost use lib.ListN.{length, getD};
 ghost use Rattle.rules.specs.Numbers.{numberOf};
-ghost use Rattle.rules.specs.Ledger.{joinOn};
+ghost use Rattle.rules.specs.Ledger.{freshLedger, joinOn};
 ghost use Rattle.tally.specs.View.{view};
 ghost use Rattle.tally.specs.Calls.{Sound};
+ghost use Rattle.lists.specs.Runs.{ended, runOn};
 ghost use Rattle.lists.specs.Steps.{Took, judgedStep, stepOn};
 ghost use Rattle.lists.specs.Widths.{Whole, answerWidth};
 
@@ -58,7 +57,9 @@ fn after(t: Tally, call: &[u8], answer: &mut [u8]) -> Tally
 
 // Makes the calls of a list and lays their answers into the buffer; gives the number of bytes laid.
 #[no_mangle]
-pub extern "C" fn gelvorin_calls(list: &[u8], buf: &mut [u8]) -> u64 {
+pub extern "C" fn gelvorin_calls(list: &[u8], buf: &mut [u8]) -> u64
+    ensures { λ r. ⌜ ended r (now (buf .exit)) ≡ runOn (length (now (list .entry))) (now (list .entry)) freshLedger freshLedger 0 (now (buf .entry)) ⌝ }
+{
     let mut one = tally::fresh();
     let mut two = tally::fresh();
     let mut from = 0;

@@ -3,7 +3,6 @@ use Rattle.lists.proofs.WidthLaws.{one-byte, three-bytes}
 use native.Mathlib.Omega.{arith}
 use mathlib.Core.Path.{refl}
 use Rattle.lists.proofs.StepLaws.{change-took, text-took}
-use borrow.Author.Tests.{lt-ltb, le-ltb}
 use borrow.Author.Needs.{needs}
 use Rattle.lists.proofs.after.Statement.{statement}
 use Rattle.lists.proofs.after.Tie as tie

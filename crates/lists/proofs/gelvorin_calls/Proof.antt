@@ -1,8 +1,13 @@
--- `lists::gelvorin_calls` ends and is safe. Assumes nothing.
+-- `lists::gelvorin_calls` meets its contract: the rest of the list, from each turn on, comes to what the whole does. Assumes nothing.
 use native.Mathlib.Omega.{arith}
 use Prim.Native.Nat.{ℕ, _+_, _-_, _≤_}
 use mathlib.Core.Path.{_≡_, sym, _∙_}
-use lib.ListN.{length, getD, take, drop, length-take, length-drop}
+use lib.ListN.{length, take, drop, length-take, length-drop}
+use Rattle.rules.specs.Ledger.{freshLedger}
+use Rattle.tally.specs.View.{view}
+use Rattle.tally.specs.Calls.{Sound}
+use Rattle.lists.specs.Runs.{runOn}
+use Rattle.lists.proofs.RunLaws.{Going, at-first, first-sound, over, none-left, at-end, at-short, at-turn, first-made, second-made, join-first, join-second, join-first-itself, join-second-itself}
 use Rattle.lists.proofs.WidthLaws.{next-call, some-byte}
 use borrow.Author.Needs.{needs}
 use Rattle.lists.proofs.gelvorin_calls.Statement.{statement}
@@ -12,7 +17,8 @@ not-join : {k l : ℕ} → (k ≡ 4 → ⊥) → l ≡ k → l ≡ 4 → ⊥
 not-join n e f = n (sym e ∙ f)
 
 abbrev Inv-loop : tie.InvT-loop
-Inv-loop list buf₀ one₀ two₀ from₀ at₀ buf one two from at = (at ≤ length buf) × (length buf ≡ length buf₀)
+Inv-loop list buf₀ one₀ two₀ from₀ at₀ buf one two from at =
+    (at ≤ length buf) × (length buf ≡ length buf₀) × Sound one × Sound two × Going list (runOn (length list) list freshLedger freshLedger 0 buf₀) from at (view one) (view two) buf
 
 abbrev μ-loop : tie.MeasureT-loop
 μ-loop list buf₀ one₀ two₀ from₀ at₀ buf one two from at = length list - from
@@ -24,7 +30,7 @@ fresh-requires-2 : tie.Need-fresh-requires-2 Inv-loop μ-loop
 fresh-requires-2 c κs = search needs
 
 loop-holds : tie.Need-loop-holds Inv-loop μ-loop
-loop-holds c = search needs
+loop-holds c = (search needs, search needs, rw (c .before .fresh .ensures) first-sound, rw (c .fresh2 .ensures) first-sound, rw (c .before .fresh .ensures, c .fresh2 .ensures) (at-first _ _))
 
 sub-call-width : tie.Need-sub-call-width Inv-loop μ-loop
 sub-call-width c = search needs
@@ -42,7 +48,7 @@ same-length : tie.Need-same-length Inv-loop μ-loop
 same-length c = search needs
 
 returns : tie.Need-returns Inv-loop μ-loop
-returns c = search needs
+returns c = at-end (c .before .before .before .before .before .before .before .before .before .args .list .now) _ (c .before .before .before .before .loop .from) (c .before .before .before .before .loop .at) (view (c .before .before .before .before .loop .one)) (view (c .before .before .before .before .loop .two)) (c .before .before .before .before .loop .buf) (c .before .before .before .before .loop .inv .4) (c .before .call-width .result) (c .before .call-width .ensures) (c .if1 .taken)
 
 add-next : tie.Need-add-next Inv-loop μ-loop
 add-next c = omega (arith, next-call (c .before .before .before .before .before .before .before .before .before .args .list .now) (c .before .before .before .before .loop .from) (c .before .call-width .result) (c .before .before .before .loop-test .taken) (c .before .call-width .ensures) (c .if1 .left) .end)
@@ -66,7 +72,7 @@ same-length-2 : tie.Need-same-length-2 Inv-loop μ-loop
 same-length-2 c = search needs
 
 returns-2 : tie.Need-returns-2 Inv-loop μ-loop
-returns-2 c = search needs
+returns-2 c = at-short (c .before .before .before .before .before .before .before .before .before .before .before .before .args .list .now) _ (c .before .before .before .before .before .before .before .loop .from) (c .before .before .before .before .before .before .before .loop .at) (view (c .before .before .before .before .before .before .before .loop .one)) (view (c .before .before .before .before .before .before .before .loop .two)) (c .before .before .before .before .before .before .before .loop .buf) (c .before .before .before .before .before .before .before .loop .inv .4) (c .before .before .before .before .call-width .result) (c .before .before .before .before .call-width .ensures) (c .before .before .before .if1 .left) (c .before .answer-width .result) (c .before .answer-width .ensures) (c .if2 .taken)
 
 add-stop : tie.Need-add-stop Inv-loop μ-loop
 add-stop c = search needs
@@ -174,43 +180,43 @@ loop-less : tie.Need-loop-less Inv-loop μ-loop
 loop-less c = omega (arith, next-call (c .before .before .before .before .before .before .before .before .before .before .before .before .before .before .before .before .before .before .before .before .before .args .list .now) (c .before .before .before .before .before .before .before .before .before .before .before .before .before .before .before .before .loop .from) (c .before .before .before .before .before .before .before .before .before .before .before .before .before .call-width .result) (c .before .before .before .before .before .before .before .before .before .before .before .before .before .before .before .loop-test .taken) (c .before .before .before .before .before .before .before .before .before .before .before .before .before .call-width .ensures) (c .before .before .before .before .before .before .before .before .before .before .before .before .if1 .left) .some)
 
 loop-again : tie.Need-loop-again Inv-loop μ-loop
-loop-again c = (omega (arith, c .before .buf .given .1), c .before .buf .given .1 ∙ c .before .before .before .before .before .before .before .before .before .before .before .before .before .before .before .before .loop .inv .1)
+loop-again c = (omega (arith, c .before .buf .given .1), c .before .buf .given .1 ∙ c .before .before .before .before .before .before .before .before .before .before .before .before .before .before .before .before .loop .inv .1, c .before .before .after .ensures .sound (c .before .before .before .before .before .before .before .before .before .before .before .before .before .before .before .before .loop .inv .2), c .before .before .before .before .before .before .before .before .before .before .before .before .before .before .before .before .loop .inv .3, at-turn (c .before .before .before .before .before .before .before .before .before .before .before .before .before .before .before .before .before .before .before .before .before .args .list .now) _ (c .before .before .before .before .before .before .before .before .before .before .before .before .before .before .before .before .loop .from) (c .before .before .before .before .before .before .before .before .before .before .before .before .before .before .before .before .loop .at) (view (c .before .before .before .before .before .before .before .before .before .before .before .before .before .before .before .before .loop .one)) (view (c .before .before .before .before .before .before .before .before .before .before .before .before .before .before .before .before .loop .two)) (c .before .before .before .before .before .before .before .before .before .before .before .before .before .before .before .before .loop .buf) (c .before .before .before .before .before .before .before .before .before .before .before .before .before .before .before .before .loop .inv .4) (c .before .before .before .before .before .before .before .before .before .before .before .before .before .call-width .result) (c .before .before .before .before .before .before .before .before .before .before .before .before .before .call-width .ensures) (c .before .before .before .before .before .before .before .before .before .before .before .before .if1 .left) (c .before .before .before .before .before .before .before .before .before .before .answer-width .result) (c .before .before .before .before .before .before .before .before .before .before .answer-width .ensures) (c .before .before .before .before .before .before .before .before .before .before .before .before .before .before .before .loop-test .taken) (c .before .before .before .before .before .before .before .before .before .if2 .left) _ _ _ (first-made (take (c .before .before .before .before .before .before .before .before .before .before .before .before .before .before .before .before .loop .from + c .before .before .before .before .before .before .before .before .before .before .before .before .before .call-width .result - c .before .before .before .before .before .before .before .before .before .before .before .before .before .before .before .before .loop .from) (drop (c .before .before .before .before .before .before .before .before .before .before .before .before .before .before .before .before .loop .from) (c .before .before .before .before .before .before .before .before .before .before .before .before .before .before .before .before .before .before .before .before .before .args .list .now))) (view (c .before .before .before .before .before .before .before .before .before .before .before .before .before .before .before .before .loop .one)) (view (c .before .before .before .before .before .before .before .before .before .before .before .before .before .before .before .before .loop .two)) (take (c .before .before .before .before .before .before .before .before .before .before .before .before .before .before .before .before .loop .at + c .before .before .before .before .before .before .before .before .before .before .answer-width .result - c .before .before .before .before .before .before .before .before .before .before .before .before .before .before .before .before .loop .at) (drop (c .before .before .before .before .before .before .before .before .before .before .before .before .before .before .before .before .loop .at) (c .before .before .before .before .before .before .before .before .before .before .before .before .before .before .before .before .loop .buf))) _ _ (not-join (c .before .before .before .before .before .before .if3 .taken) (next-call (c .before .before .before .before .before .before .before .before .before .before .before .before .before .before .before .before .before .before .before .before .before .args .list .now) (c .before .before .before .before .before .before .before .before .before .before .before .before .before .before .before .before .loop .from) (c .before .before .before .before .before .before .before .before .before .before .before .before .before .call-width .result) (c .before .before .before .before .before .before .before .before .before .before .before .before .before .before .before .loop-test .taken) (c .before .before .before .before .before .before .before .before .before .before .before .before .before .call-width .ensures) (c .before .before .before .before .before .before .before .before .before .before .before .before .if1 .left) .kind)) (next-call (c .before .before .before .before .before .before .before .before .before .before .before .before .before .before .before .before .before .before .before .before .before .args .list .now) (c .before .before .before .before .before .before .before .before .before .before .before .before .before .before .before .before .loop .from) (c .before .before .before .before .before .before .before .before .before .before .before .before .before .call-width .result) (c .before .before .before .before .before .before .before .before .before .before .before .before .before .before .before .loop-test .taken) (c .before .before .before .before .before .before .before .before .before .before .before .before .before .call-width .ensures) (c .before .before .before .before .before .before .before .before .before .before .before .before .if1 .left) .name ∙ c .before .before .before .before .before .if4 .taken) (c .before .before .after .ensures .right (c .before .before .before .before .before .before .before .before .before .before .before .before .before .before .before .before .loop .inv .2))))
 
 loop-less-2 : tie.Need-loop-less-2 Inv-loop μ-loop
 loop-less-2 c = omega (arith, next-call (c .before .before .before .before .before .before .before .before .before .before .before .before .before .before .before .before .before .before .before .before .before .args .list .now) (c .before .before .before .before .before .before .before .before .before .before .before .before .before .before .before .before .loop .from) (c .before .before .before .before .before .before .before .before .before .before .before .before .before .call-width .result) (c .before .before .before .before .before .before .before .before .before .before .before .before .before .before .before .loop-test .taken) (c .before .before .before .before .before .before .before .before .before .before .before .before .before .call-width .ensures) (c .before .before .before .before .before .before .before .before .before .before .before .before .if1 .left) .some)
 
 loop-again-2 : tie.Need-loop-again-2 Inv-loop μ-loop
-loop-again-2 c = (omega (arith, c .before .buf2 .given .1), c .before .buf2 .given .1 ∙ c .before .before .before .before .before .before .before .before .before .before .before .before .before .before .before .before .loop .inv .1)
+loop-again-2 c = (omega (arith, c .before .buf2 .given .1), c .before .buf2 .given .1 ∙ c .before .before .before .before .before .before .before .before .before .before .before .before .before .before .before .before .loop .inv .1, c .before .before .before .before .before .before .before .before .before .before .before .before .before .before .before .before .loop .inv .2, c .before .before .after2 .ensures .sound (c .before .before .before .before .before .before .before .before .before .before .before .before .before .before .before .before .loop .inv .3), at-turn (c .before .before .before .before .before .before .before .before .before .before .before .before .before .before .before .before .before .before .before .before .before .args .list .now) _ (c .before .before .before .before .before .before .before .before .before .before .before .before .before .before .before .before .loop .from) (c .before .before .before .before .before .before .before .before .before .before .before .before .before .before .before .before .loop .at) (view (c .before .before .before .before .before .before .before .before .before .before .before .before .before .before .before .before .loop .one)) (view (c .before .before .before .before .before .before .before .before .before .before .before .before .before .before .before .before .loop .two)) (c .before .before .before .before .before .before .before .before .before .before .before .before .before .before .before .before .loop .buf) (c .before .before .before .before .before .before .before .before .before .before .before .before .before .before .before .before .loop .inv .4) (c .before .before .before .before .before .before .before .before .before .before .before .before .before .call-width .result) (c .before .before .before .before .before .before .before .before .before .before .before .before .before .call-width .ensures) (c .before .before .before .before .before .before .before .before .before .before .before .before .if1 .left) (c .before .before .before .before .before .before .before .before .before .before .answer-width .result) (c .before .before .before .before .before .before .before .before .before .before .answer-width .ensures) (c .before .before .before .before .before .before .before .before .before .before .before .before .before .before .before .loop-test .taken) (c .before .before .before .before .before .before .before .before .before .if2 .left) _ _ _ (second-made (take (c .before .before .before .before .before .before .before .before .before .before .before .before .before .before .before .before .loop .from + c .before .before .before .before .before .before .before .before .before .before .before .before .before .call-width .result - c .before .before .before .before .before .before .before .before .before .before .before .before .before .before .before .before .loop .from) (drop (c .before .before .before .before .before .before .before .before .before .before .before .before .before .before .before .before .loop .from) (c .before .before .before .before .before .before .before .before .before .before .before .before .before .before .before .before .before .before .before .before .before .args .list .now))) (view (c .before .before .before .before .before .before .before .before .before .before .before .before .before .before .before .before .loop .one)) (view (c .before .before .before .before .before .before .before .before .before .before .before .before .before .before .before .before .loop .two)) (take (c .before .before .before .before .before .before .before .before .before .before .before .before .before .before .before .before .loop .at + c .before .before .before .before .before .before .before .before .before .before .answer-width .result - c .before .before .before .before .before .before .before .before .before .before .before .before .before .before .before .before .loop .at) (drop (c .before .before .before .before .before .before .before .before .before .before .before .before .before .before .before .before .loop .at) (c .before .before .before .before .before .before .before .before .before .before .before .before .before .before .before .before .loop .buf))) _ _ (not-join (c .before .before .before .before .before .before .if3 .taken) (next-call (c .before .before .before .before .before .before .before .before .before .before .before .before .before .before .before .before .before .before .before .before .before .args .list .now) (c .before .before .before .before .before .before .before .before .before .before .before .before .before .before .before .before .loop .from) (c .before .before .before .before .before .before .before .before .before .before .before .before .before .call-width .result) (c .before .before .before .before .before .before .before .before .before .before .before .before .before .before .before .loop-test .taken) (c .before .before .before .before .before .before .before .before .before .before .before .before .before .call-width .ensures) (c .before .before .before .before .before .before .before .before .before .before .before .before .if1 .left) .kind)) (λ e. c .before .before .before .before .before .if4 .left (sym (next-call (c .before .before .before .before .before .before .before .before .before .before .before .before .before .before .before .before .before .before .before .before .before .args .list .now) (c .before .before .before .before .before .before .before .before .before .before .before .before .before .before .before .before .loop .from) (c .before .before .before .before .before .before .before .before .before .before .before .before .before .call-width .result) (c .before .before .before .before .before .before .before .before .before .before .before .before .before .before .before .loop-test .taken) (c .before .before .before .before .before .before .before .before .before .before .before .before .before .call-width .ensures) (c .before .before .before .before .before .before .before .before .before .before .before .before .if1 .left) .name) ∙ e)) (c .before .before .after2 .ensures .right (c .before .before .before .before .before .before .before .before .before .before .before .before .before .before .before .before .loop .inv .3))))
 
 loop-less-3 : tie.Need-loop-less-3 Inv-loop μ-loop
 loop-less-3 c = omega (arith, next-call (c .before .before .before .before .before .before .before .before .before .before .before .before .before .before .before .before .before .before .before .before .args .list .now) (c .before .before .before .before .before .before .before .before .before .before .before .before .before .before .before .loop .from) (c .before .before .before .before .before .before .before .before .before .before .before .before .call-width .result) (c .before .before .before .before .before .before .before .before .before .before .before .before .before .before .loop-test .taken) (c .before .before .before .before .before .before .before .before .before .before .before .before .call-width .ensures) (c .before .before .before .before .before .before .before .before .before .before .before .if1 .left) .some)
 
 loop-again-3 : tie.Need-loop-again-3 Inv-loop μ-loop
-loop-again-3 c = (omega (arith, c .before .buf3 .given .1), c .before .buf3 .given .1 ∙ c .before .before .before .before .before .before .before .before .before .before .before .before .before .before .before .loop .inv .1)
+loop-again-3 c = (omega (arith, c .before .buf3 .given .1), c .before .buf3 .given .1 ∙ c .before .before .before .before .before .before .before .before .before .before .before .before .before .before .before .loop .inv .1, c .before .before .joined .ensures .sound (c .before .before .before .before .before .before .before .before .before .before .before .before .before .before .before .loop .inv .2, c .before .before .before .before .before .before .before .before .before .before .before .before .before .before .before .loop .inv .3), c .before .before .before .before .before .before .before .before .before .before .before .before .before .before .before .loop .inv .3, at-turn (c .before .before .before .before .before .before .before .before .before .before .before .before .before .before .before .before .before .before .before .before .args .list .now) _ (c .before .before .before .before .before .before .before .before .before .before .before .before .before .before .before .loop .from) (c .before .before .before .before .before .before .before .before .before .before .before .before .before .before .before .loop .at) (view (c .before .before .before .before .before .before .before .before .before .before .before .before .before .before .before .loop .one)) (view (c .before .before .before .before .before .before .before .before .before .before .before .before .before .before .before .loop .two)) (c .before .before .before .before .before .before .before .before .before .before .before .before .before .before .before .loop .buf) (c .before .before .before .before .before .before .before .before .before .before .before .before .before .before .before .loop .inv .4) (c .before .before .before .before .before .before .before .before .before .before .before .before .call-width .result) (c .before .before .before .before .before .before .before .before .before .before .before .before .call-width .ensures) (c .before .before .before .before .before .before .before .before .before .before .before .if1 .left) (c .before .before .before .before .before .before .before .before .before .answer-width .result) (c .before .before .before .before .before .before .before .before .before .answer-width .ensures) (c .before .before .before .before .before .before .before .before .before .before .before .before .before .before .loop-test .taken) (c .before .before .before .before .before .before .before .before .if2 .left) _ _ _ (join-first (take (c .before .before .before .before .before .before .before .before .before .before .before .before .before .before .before .loop .from + c .before .before .before .before .before .before .before .before .before .before .before .before .call-width .result - c .before .before .before .before .before .before .before .before .before .before .before .before .before .before .before .loop .from) (drop (c .before .before .before .before .before .before .before .before .before .before .before .before .before .before .before .loop .from) (c .before .before .before .before .before .before .before .before .before .before .before .before .before .before .before .before .before .before .before .before .args .list .now))) (view (c .before .before .before .before .before .before .before .before .before .before .before .before .before .before .before .loop .one)) (view (c .before .before .before .before .before .before .before .before .before .before .before .before .before .before .before .loop .two)) (take (c .before .before .before .before .before .before .before .before .before .before .before .before .before .before .before .loop .at + c .before .before .before .before .before .before .before .before .before .answer-width .result - c .before .before .before .before .before .before .before .before .before .before .before .before .before .before .before .loop .at) (drop (c .before .before .before .before .before .before .before .before .before .before .before .before .before .before .before .loop .at) (c .before .before .before .before .before .before .before .before .before .before .before .before .before .before .before .loop .buf))) _ _ (next-call (c .before .before .before .before .before .before .before .before .before .before .before .before .before .before .before .before .before .before .before .before .args .list .now) (c .before .before .before .before .before .before .before .before .before .before .before .before .before .before .before .loop .from) (c .before .before .before .before .before .before .before .before .before .before .before .before .call-width .result) (c .before .before .before .before .before .before .before .before .before .before .before .before .before .before .loop-test .taken) (c .before .before .before .before .before .before .before .before .before .before .before .before .call-width .ensures) (c .before .before .before .before .before .before .before .before .before .before .before .if1 .left) .kind ∙ c .before .before .before .before .before .if3 .left) (next-call (c .before .before .before .before .before .before .before .before .before .before .before .before .before .before .before .before .before .before .before .before .args .list .now) (c .before .before .before .before .before .before .before .before .before .before .before .before .before .before .before .loop .from) (c .before .before .before .before .before .before .before .before .before .before .before .before .call-width .result) (c .before .before .before .before .before .before .before .before .before .before .before .before .before .before .loop-test .taken) (c .before .before .before .before .before .before .before .before .before .before .before .before .call-width .ensures) (c .before .before .before .before .before .before .before .before .before .before .before .if1 .left) .name ∙ c .before .before .before .before .if5 .taken) (c .before .before .joined .ensures .right (c .before .before .before .before .before .before .before .before .before .before .before .before .before .before .before .loop .inv .2, c .before .before .before .before .before .before .before .before .before .before .before .before .before .before .before .loop .inv .3))))
 
 loop-less-4 : tie.Need-loop-less-4 Inv-loop μ-loop
 loop-less-4 c = omega (arith, next-call (c .before .before .before .before .before .before .before .before .before .before .before .before .before .before .before .before .before .before .before .before .before .args .list .now) (c .before .before .before .before .before .before .before .before .before .before .before .before .before .before .before .before .loop .from) (c .before .before .before .before .before .before .before .before .before .before .before .before .before .call-width .result) (c .before .before .before .before .before .before .before .before .before .before .before .before .before .before .before .loop-test .taken) (c .before .before .before .before .before .before .before .before .before .before .before .before .before .call-width .ensures) (c .before .before .before .before .before .before .before .before .before .before .before .before .if1 .left) .some)
 
 loop-again-4 : tie.Need-loop-again-4 Inv-loop μ-loop
-loop-again-4 c = (omega (arith, c .before .buf4 .given .1), c .before .buf4 .given .1 ∙ c .before .before .before .before .before .before .before .before .before .before .before .before .before .before .before .before .loop .inv .1)
+loop-again-4 c = (omega (arith, c .before .buf4 .given .1), c .before .buf4 .given .1 ∙ c .before .before .before .before .before .before .before .before .before .before .before .before .before .before .before .before .loop .inv .1, c .before .before .before .before .before .before .before .before .before .before .before .before .before .before .before .before .loop .inv .2, c .before .before .joined2 .ensures .sound (c .before .before .before .before .before .before .before .before .before .before .before .before .before .before .before .before .loop .inv .3, c .before .before .before .before .before .before .before .before .before .before .before .before .before .before .before .before .loop .inv .2), at-turn (c .before .before .before .before .before .before .before .before .before .before .before .before .before .before .before .before .before .before .before .before .before .args .list .now) _ (c .before .before .before .before .before .before .before .before .before .before .before .before .before .before .before .before .loop .from) (c .before .before .before .before .before .before .before .before .before .before .before .before .before .before .before .before .loop .at) (view (c .before .before .before .before .before .before .before .before .before .before .before .before .before .before .before .before .loop .one)) (view (c .before .before .before .before .before .before .before .before .before .before .before .before .before .before .before .before .loop .two)) (c .before .before .before .before .before .before .before .before .before .before .before .before .before .before .before .before .loop .buf) (c .before .before .before .before .before .before .before .before .before .before .before .before .before .before .before .before .loop .inv .4) (c .before .before .before .before .before .before .before .before .before .before .before .before .before .call-width .result) (c .before .before .before .before .before .before .before .before .before .before .before .before .before .call-width .ensures) (c .before .before .before .before .before .before .before .before .before .before .before .before .if1 .left) (c .before .before .before .before .before .before .before .before .before .before .answer-width .result) (c .before .before .before .before .before .before .before .before .before .before .answer-width .ensures) (c .before .before .before .before .before .before .before .before .before .before .before .before .before .before .before .loop-test .taken) (c .before .before .before .before .before .before .before .before .before .if2 .left) _ _ _ (join-second (take (c .before .before .before .before .before .before .before .before .before .before .before .before .before .before .before .before .loop .from + c .before .before .before .before .before .before .before .before .before .before .before .before .before .call-width .result - c .before .before .before .before .before .before .before .before .before .before .before .before .before .before .before .before .loop .from) (drop (c .before .before .before .before .before .before .before .before .before .before .before .before .before .before .before .before .loop .from) (c .before .before .before .before .before .before .before .before .before .before .before .before .before .before .before .before .before .before .before .before .before .args .list .now))) (view (c .before .before .before .before .before .before .before .before .before .before .before .before .before .before .before .before .loop .one)) (view (c .before .before .before .before .before .before .before .before .before .before .before .before .before .before .before .before .loop .two)) (take (c .before .before .before .before .before .before .before .before .before .before .before .before .before .before .before .before .loop .at + c .before .before .before .before .before .before .before .before .before .before .answer-width .result - c .before .before .before .before .before .before .before .before .before .before .before .before .before .before .before .before .loop .at) (drop (c .before .before .before .before .before .before .before .before .before .before .before .before .before .before .before .before .loop .at) (c .before .before .before .before .before .before .before .before .before .before .before .before .before .before .before .before .loop .buf))) _ _ (next-call (c .before .before .before .before .before .before .before .before .before .before .before .before .before .before .before .before .before .before .before .before .before .args .list .now) (c .before .before .before .before .before .before .before .before .before .before .before .before .before .before .before .before .loop .from) (c .before .before .before .before .before .before .before .before .before .before .before .before .before .call-width .result) (c .before .before .before .before .before .before .before .before .before .before .before .before .before .before .before .loop-test .taken) (c .before .before .before .before .before .before .before .before .before .before .before .before .before .call-width .ensures) (c .before .before .before .before .before .before .before .before .before .before .before .before .if1 .left) .kind ∙ c .before .before .before .before .before .before .if3 .left) (λ e. c .before .before .before .before .before .if5 .left (sym (next-call (c .before .before .before .before .before .before .before .before .before .before .before .before .before .before .before .before .before .before .before .before .before .args .list .now) (c .before .before .before .before .before .before .before .before .before .before .before .before .before .before .before .before .loop .from) (c .before .before .before .before .before .before .before .before .before .before .before .before .before .call-width .result) (c .before .before .before .before .before .before .before .before .before .before .before .before .before .before .before .loop-test .taken) (c .before .before .before .before .before .before .before .before .before .before .before .before .before .call-width .ensures) (c .before .before .before .before .before .before .before .before .before .before .before .before .if1 .left) .name) ∙ e)) (next-call (c .before .before .before .before .before .before .before .before .before .before .before .before .before .before .before .before .before .before .before .before .before .args .list .now) (c .before .before .before .before .before .before .before .before .before .before .before .before .before .before .before .before .loop .from) (c .before .before .before .before .before .before .before .before .before .before .before .before .before .call-width .result) (c .before .before .before .before .before .before .before .before .before .before .before .before .before .before .before .loop-test .taken) (c .before .before .before .before .before .before .before .before .before .before .before .before .before .call-width .ensures) (c .before .before .before .before .before .before .before .before .before .before .before .before .if1 .left) .name ∙ c .before .before .before .before .if6 .taken) (c .before .before .joined2 .ensures .right (c .before .before .before .before .before .before .before .before .before .before .before .before .before .before .before .before .loop .inv .3, c .before .before .before .before .before .before .before .before .before .before .before .before .before .before .before .before .loop .inv .2))))
 
 loop-less-5 : tie.Need-loop-less-5 Inv-loop μ-loop
 loop-less-5 c = omega (arith, next-call (c .before .before .before .before .before .before .before .before .before .before .before .before .before .before .before .before .before .before .before .before .before .before .args .list .now) (c .before .before .before .before .before .before .before .before .before .before .before .before .before .before .before .before .before .loop .from) (c .before .before .before .before .before .before .before .before .before .before .before .before .before .before .call-width .result) (c .before .before .before .before .before .before .before .before .before .before .before .before .before .before .before .before .loop-test .taken) (c .before .before .before .before .before .before .before .before .before .before .before .before .before .before .call-width .ensures) (c .before .before .before .before .before .before .before .before .before .before .before .before .before .if1 .left) .some)
 
 loop-again-5 : tie.Need-loop-again-5 Inv-loop μ-loop
-loop-again-5 c = (omega (arith, c .before .buf5 .given .1), c .before .buf5 .given .1 ∙ c .before .before .before .before .before .before .before .before .before .before .before .before .before .before .before .before .before .loop .inv .1)
+loop-again-5 c = (omega (arith, c .before .buf5 .given .1), c .before .buf5 .given .1 ∙ c .before .before .before .before .before .before .before .before .before .before .before .before .before .before .before .before .before .loop .inv .1, c .before .before .joined3 .ensures .sound (c .before .before .before .before .before .before .before .before .before .before .before .before .before .before .before .before .before .loop .inv .2, c .before .before .before .before .before .before .before .before .before .before .before .before .before .before .before .before .before .loop .inv .2), c .before .before .before .before .before .before .before .before .before .before .before .before .before .before .before .before .before .loop .inv .3, at-turn (c .before .before .before .before .before .before .before .before .before .before .before .before .before .before .before .before .before .before .before .before .before .before .args .list .now) _ (c .before .before .before .before .before .before .before .before .before .before .before .before .before .before .before .before .before .loop .from) (c .before .before .before .before .before .before .before .before .before .before .before .before .before .before .before .before .before .loop .at) (view (c .before .before .before .before .before .before .before .before .before .before .before .before .before .before .before .before .before .loop .one)) (view (c .before .before .before .before .before .before .before .before .before .before .before .before .before .before .before .before .before .loop .two)) (c .before .before .before .before .before .before .before .before .before .before .before .before .before .before .before .before .before .loop .buf) (c .before .before .before .before .before .before .before .before .before .before .before .before .before .before .before .before .before .loop .inv .4) (c .before .before .before .before .before .before .before .before .before .before .before .before .before .before .call-width .result) (c .before .before .before .before .before .before .before .before .before .before .before .before .before .before .call-width .ensures) (c .before .before .before .before .before .before .before .before .before .before .before .before .before .if1 .left) (c .before .before .before .before .before .before .before .before .before .before .before .answer-width .result) (c .before .before .before .before .before .before .before .before .before .before .before .answer-width .ensures) (c .before .before .before .before .before .before .before .before .before .before .before .before .before .before .before .before .loop-test .taken) (c .before .before .before .before .before .before .before .before .before .before .if2 .left) _ _ _ (join-first-itself (take (c .before .before .before .before .before .before .before .before .before .before .before .before .before .before .before .before .before .loop .from + c .before .before .before .before .before .before .before .before .before .before .before .before .before .before .call-width .result - c .before .before .before .before .before .before .before .before .before .before .before .before .before .before .before .before .before .loop .from) (drop (c .before .before .before .before .before .before .before .before .before .before .before .before .before .before .before .before .before .loop .from) (c .before .before .before .before .before .before .before .before .before .before .before .before .before .before .before .before .before .before .before .before .before .before .args .list .now))) (view (c .before .before .before .before .before .before .before .before .before .before .before .before .before .before .before .before .before .loop .one)) (view (c .before .before .before .before .before .before .before .before .before .before .before .before .before .before .before .before .before .loop .two)) (take (c .before .before .before .before .before .before .before .before .before .before .before .before .before .before .before .before .before .loop .at + c .before .before .before .before .before .before .before .before .before .before .before .answer-width .result - c .before .before .before .before .before .before .before .before .before .before .before .before .before .before .before .before .before .loop .at) (drop (c .before .before .before .before .before .before .before .before .before .before .before .before .before .before .before .before .before .loop .at) (c .before .before .before .before .before .before .before .before .before .before .before .before .before .before .before .before .before .loop .buf))) _ _ (next-call (c .before .before .before .before .before .before .before .before .before .before .before .before .before .before .before .before .before .before .before .before .before .before .args .list .now) (c .before .before .before .before .before .before .before .before .before .before .before .before .before .before .before .before .before .loop .from) (c .before .before .before .before .before .before .before .before .before .before .before .before .before .before .call-width .result) (c .before .before .before .before .before .before .before .before .before .before .before .before .before .before .before .before .loop-test .taken) (c .before .before .before .before .before .before .before .before .before .before .before .before .before .before .call-width .ensures) (c .before .before .before .before .before .before .before .before .before .before .before .before .before .if1 .left) .kind ∙ c .before .before .before .before .before .before .before .if3 .left) (λ e. c .before .before .before .before .before .before .if5 .left (sym (next-call (c .before .before .before .before .before .before .before .before .before .before .before .before .before .before .before .before .before .before .before .before .before .before .args .list .now) (c .before .before .before .before .before .before .before .before .before .before .before .before .before .before .before .before .before .loop .from) (c .before .before .before .before .before .before .before .before .before .before .before .before .before .before .call-width .result) (c .before .before .before .before .before .before .before .before .before .before .before .before .before .before .before .before .loop-test .taken) (c .before .before .before .before .before .before .before .before .before .before .before .before .before .before .call-width .ensures) (c .before .before .before .before .before .before .before .before .before .before .before .before .before .if1 .left) .name) ∙ e)) (λ e. c .before .before .before .before .before .if6 .left (sym (next-call (c .before .before .before .before .before .before .before .before .before .before .before .before .before .before .before .before .before .before .before .before .before .before .args .list .now) (c .before .before .before .before .before .before .before .before .before .before .before .before .before .before .before .before .before .loop .from) (c .before .before .before .before .before .before .before .before .before .before .before .before .before .before .call-width .result) (c .before .before .before .before .before .before .before .before .before .before .before .before .before .before .before .before .loop-test .taken) (c .before .before .before .before .before .before .before .before .before .before .before .before .before .before .call-width .ensures) (c .before .before .before .before .before .before .before .before .before .before .before .before .before .if1 .left) .name) ∙ e)) (next-call (c .before .before .before .before .before .before .before .before .before .before .before .before .before .before .before .before .before .before .before .before .before .before .args .list .now) (c .before .before .before .before .before .before .before .before .before .before .before .before .before .before .before .before .before .loop .from) (c .before .before .before .before .before .before .before .before .before .before .before .before .before .before .call-width .result) (c .before .before .before .before .before .before .before .before .before .before .before .before .before .before .before .before .loop-test .taken) (c .before .before .before .before .before .before .before .before .before .before .before .before .before .before .call-width .ensures) (c .before .before .before .before .before .before .before .before .before .before .before .before .before .if1 .left) .name ∙ c .before .before .before .before .if7 .taken) (c .before .before .joined3 .ensures .right (c .before .before .before .before .before .before .before .before .before .before .before .before .before .before .before .before .before .loop .inv .2, c .before .before .before .before .before .before .before .before .before .before .before .before .before .before .before .before .before .loop .inv .2))))
 
 loop-less-6 : tie.Need-loop-less-6 Inv-loop μ-loop
 loop-less-6 c = omega (arith, next-call (c .before .before .before .before .before .before .before .before .before .before .before .before .before .before .before .before .before .before .before .before .before .before .args .list .now) (c .before .before .before .before .before .before .before .before .before .before .before .before .before .before .before .before .before .loop .from) (c .before .before .before .before .before .before .before .before .before .before .before .before .before .before .call-width .result) (c .before .before .before .before .before .before .before .before .before .before .before .before .before .before .before .before .loop-test .taken) (c .before .before .before .before .before .before .before .before .before .before .before .before .before .before .call-width .ensures) (c .before .before .before .before .before .before .before .before .before .before .before .before .before .if1 .left) .some)
 
 loop-again-6 : tie.Need-loop-again-6 Inv-loop μ-loop
-loop-again-6 c = (omega (arith, c .before .buf6 .given .1), c .before .buf6 .given .1 ∙ c .before .before .before .before .before .before .before .before .before .before .before .before .before .before .before .before .before .loop .inv .1)
+loop-again-6 c = (omega (arith, c .before .buf6 .given .1), c .before .buf6 .given .1 ∙ c .before .before .before .before .before .before .before .before .before .before .before .before .before .before .before .before .before .loop .inv .1, c .before .before .before .before .before .before .before .before .before .before .before .before .before .before .before .before .before .loop .inv .2, c .before .before .joined4 .ensures .sound (c .before .before .before .before .before .before .before .before .before .before .before .before .before .before .before .before .before .loop .inv .3, c .before .before .before .before .before .before .before .before .before .before .before .before .before .before .before .before .before .loop .inv .3), at-turn (c .before .before .before .before .before .before .before .before .before .before .before .before .before .before .before .before .before .before .before .before .before .before .args .list .now) _ (c .before .before .before .before .before .before .before .before .before .before .before .before .before .before .before .before .before .loop .from) (c .before .before .before .before .before .before .before .before .before .before .before .before .before .before .before .before .before .loop .at) (view (c .before .before .before .before .before .before .before .before .before .before .before .before .before .before .before .before .before .loop .one)) (view (c .before .before .before .before .before .before .before .before .before .before .before .before .before .before .before .before .before .loop .two)) (c .before .before .before .before .before .before .before .before .before .before .before .before .before .before .before .before .before .loop .buf) (c .before .before .before .before .before .before .before .before .before .before .before .before .before .before .before .before .before .loop .inv .4) (c .before .before .before .before .before .before .before .before .before .before .before .before .before .before .call-width .result) (c .before .before .before .before .before .before .before .before .before .before .before .before .before .before .call-width .ensures) (c .before .before .before .before .before .before .before .before .before .before .before .before .before .if1 .left) (c .before .before .before .before .before .before .before .before .before .before .before .answer-width .result) (c .before .before .before .before .before .before .before .before .before .before .before .answer-width .ensures) (c .before .before .before .before .before .before .before .before .before .before .before .before .before .before .before .before .loop-test .taken) (c .before .before .before .before .before .before .before .before .before .before .if2 .left) _ _ _ (join-second-itself (take (c .before .before .before .before .before .before .before .before .before .before .before .before .before .before .before .before .before .loop .from + c .before .before .before .before .before .before .before .before .before .before .before .before .before .before .call-width .result - c .before .before .before .before .before .before .before .before .before .before .before .before .before .before .before .before .before .loop .from) (drop (c .before .before .before .before .before .before .before .before .before .before .before .before .before .before .before .before .before .loop .from) (c .before .before .before .before .before .before .before .before .before .before .before .before .before .before .before .before .before .before .before .before .before .before .args .list .now))) (view (c .before .before .before .before .before .before .before .before .before .before .before .before .before .before .before .before .before .loop .one)) (view (c .before .before .before .before .before .before .before .before .before .before .before .before .before .before .before .before .before .loop .two)) (take (c .before .before .before .before .before .before .before .before .before .before .before .before .before .before .before .before .before .loop .at + c .before .before .before .before .before .before .before .before .before .before .before .answer-width .result - c .before .before .before .before .before .before .before .before .before .before .before .before .before .before .before .before .before .loop .at) (drop (c .before .before .before .before .before .before .before .before .before .before .before .before .before .before .before .before .before .loop .at) (c .before .before .before .before .before .before .before .before .before .before .before .before .before .before .before .before .before .loop .buf))) _ _ (next-call (c .before .before .before .before .before .before .before .before .before .before .before .before .before .before .before .before .before .before .before .before .before .before .args .list .now) (c .before .before .before .before .before .before .before .before .before .before .before .before .before .before .before .before .before .loop .from) (c .before .before .before .before .before .before .before .before .before .before .before .before .before .before .call-width .result) (c .before .before .before .before .before .before .before .before .before .before .before .before .before .before .before .before .loop-test .taken) (c .before .before .before .before .before .before .before .before .before .before .before .before .before .before .call-width .ensures) (c .before .before .before .before .before .before .before .before .before .before .before .before .before .if1 .left) .kind ∙ c .before .before .before .before .before .before .before .if3 .left) (λ e. c .before .before .before .before .before .before .if5 .left (sym (next-call (c .before .before .before .before .before .before .before .before .before .before .before .before .before .before .before .before .before .before .before .before .before .before .args .list .now) (c .before .before .before .before .before .before .before .before .before .before .before .before .before .before .before .before .before .loop .from) (c .before .before .before .before .before .before .before .before .before .before .before .before .before .before .call-width .result) (c .before .before .before .before .before .before .before .before .before .before .before .before .before .before .before .before .loop-test .taken) (c .before .before .before .before .before .before .before .before .before .before .before .before .before .before .call-width .ensures) (c .before .before .before .before .before .before .before .before .before .before .before .before .before .if1 .left) .name) ∙ e)) (λ e. c .before .before .before .before .before .if6 .left (sym (next-call (c .before .before .before .before .before .before .before .before .before .before .before .before .before .before .before .before .before .before .before .before .before .before .args .list .now) (c .before .before .before .before .before .before .before .before .before .before .before .before .before .before .before .before .before .loop .from) (c .before .before .before .before .before .before .before .before .before .before .before .before .before .before .call-width .result) (c .before .before .before .before .before .before .before .before .before .before .before .before .before .before .before .before .loop-test .taken) (c .before .before .before .before .before .before .before .before .before .before .before .before .before .before .call-width .ensures) (c .before .before .before .before .before .before .before .before .before .before .before .before .before .if1 .left) .name) ∙ e)) (λ e. c .before .before .before .before .if7 .left (sym (next-call (c .before .before .before .before .before .before .before .before .before .before .before .before .before .before .before .before .before .before .before .before .before .before .args .list .now) (c .before .before .before .before .before .before .before .before .before .before .before .before .before .before .before .before .before .loop .from) (c .before .before .before .before .before .before .before .before .before .before .before .before .before .before .call-width .result) (c .before .before .before .before .before .before .before .before .before .before .before .before .before .before .before .before .loop-test .taken) (c .before .before .before .before .before .before .before .before .before .before .before .before .before .before .call-width .ensures) (c .before .before .before .before .before .before .before .before .before .before .before .before .before .if1 .left) .name) ∙ e)) (c .before .before .joined4 .ensures .right (c .before .before .before .before .before .before .before .before .before .before .before .before .before .before .before .before .before .loop .inv .3, c .before .before .before .before .before .before .before .before .before .before .before .before .before .before .before .before .before .loop .inv .3))))
 
 same-length-3 : tie.Need-same-length-3 Inv-loop μ-loop
 same-length-3 c = search needs
 
 returns-3 : tie.Need-returns-3 Inv-loop μ-loop
-returns-3 c = search needs
+returns-3 c = over (c .before .before .before .before .before .before .args .list .now) _ (c .before .loop .from) (c .before .loop .at) _ _ _ (c .before .loop .inv .4) (none-left (c .before .before .before .before .before .before .args .list .now) (c .before .loop .from) (c .loop-test .left))
 
 pub gelvorin-calls-spec : {M : Type 1} → statement M
 gelvorin-calls-spec =
