@@ -82,54 +82,78 @@ fn pairs_line(name: &str, pairs: &[(u32, u32)], call: fn(&dyn Subject, u32, u32)
     });
 }
 
-/// Lists of calls: a tally is opened, filled, emptied or joined; the time is that of the whole list.
+/// The calls on a tally, each as the time of a list with the call many times less that of the list without it.
 fn list_lines(prng: &mut Prng) {
     println!();
     if Ours.calls(&[], &mut []).is_none() {
-        println!("lists of calls: the library has no such call");
+        println!("calls on a tally: the library has no such call");
         return;
     }
-    let mut buf = vec![0; 4_096];
+    println!(
+        "one call on a tally: a list of calls with it many times less the list without, by their number"
+    );
+    let full = Plan::full(prng);
+    call_line("open     96 rows, 56 critical values", 20, &[], &vec![open(0, &full); 20].concat());
     for held in [5, 20, 60] {
         let plan = plain(prng, held);
-        let (lot, card) = (plan.lot, Box::new(plan.card()));
-        let mut list = Vec::new();
-        Call::Open { on: 0, lot, card }.encode(&mut list);
-        for &(container, x) in &plan.results {
-            Call::Enter { on: 0, container, x }.encode(&mut list);
-        }
-        list_line(&format!("list     open, {held} enters"), &list, &mut buf);
-        Call::Report { on: 0, room: 100 }.encode(&mut list);
-        list_line(&format!("list     open, {held} enters, report"), &list, &mut buf);
-        for &(container, _) in &plan.results {
-            Call::Withdraw { on: 0, container }.encode(&mut list);
-        }
-        list_line(&format!("list     the same, {held} withdraws"), &list, &mut buf);
+        let opened = open(0, &plan);
+        let entered = [opened.clone(), enters(0, &plan.results)].concat();
+        call_line(&format!("enter    the 1st to the {held}th"), held, &opened, &entered);
+        let withdrawn = plan.results.iter().map(|&(container, _)| Call::Withdraw { on: 0, container });
+        let emptied = [entered.clone(), withdrawn.collect()].concat();
+        call_line(&format!("withdraw {held} held, down to none"), held, &entered, &emptied);
+        let half = plan.results.len() / 2;
+        let (first, second) = (enters(0, &plan.results[..half]), enters(1, &plan.results[half..]));
+        let apart = [opened, first, open(1, &plan), second].concat();
+        let joined = [apart.clone(), vec![Call::Join { on: 0, other: 1 }]].concat();
+        let [apart, joined] = [apart, joined].map(|calls| vec![calls; 20].concat());
+        call_line(&format!("join     {half} and {} held", held - half), 20, &apart, &joined);
+        let reported = [entered.clone(), vec![Call::Report { on: 0, room: 100 }; 100]].concat();
+        call_line(&format!("report   {held} held"), 100, &entered, &reported);
+        let written = [entered.clone(), vec![Call::Write { on: 0, room: 1_000 }; 100]].concat();
+        call_line(&format!("write    {held} held, 1 row, 1 critical value"), 100, &entered, &written);
     }
-    let plan = plain(prng, 60);
-    let mut list = Vec::new();
-    for on in [0, 1] {
-        Call::Open { on, lot: plan.lot, card: Box::new(plan.card()) }.encode(&mut list);
-    }
-    for (place, &(container, x)) in plan.results.iter().enumerate() {
-        Call::Enter { on: place % 2, container, x }.encode(&mut list);
-    }
-    list_line("list     2 opens, 60 enters", &list, &mut buf);
-    Call::Join { on: 0, other: 1 }.encode(&mut list);
-    list_line("list     the same, join of 30 and 30", &list, &mut buf);
 }
 
-fn list_line(name: &str, list: &[u8], buf: &mut [u8]) {
-    line(name, 1, |subject| subject.calls(black_box(list), buf));
+fn open(on: usize, plan: &Plan) -> Vec<Call> {
+    vec![Call::Open { on, lot: plan.lot, card: Box::new(plan.card()) }]
+}
+
+fn enters(on: usize, results: &[(u16, u16)]) -> Vec<Call> {
+    results.iter().map(|&(container, x)| Call::Enter { on, container, x }).collect()
+}
+
+/// Measures the `number` calls that `with` has and `without` has not, and prints a line for one of them.
+fn call_line(name: &str, number: usize, without: &[Call], with: &[Call]) {
+    let [short, long] = [without, with].map(list_times);
+    let difference = |which: usize| (long[which] - short[which]) / number as f64;
+    print_times(name, [difference(0), difference(1)]);
+}
+
+/// Nanoseconds for a whole list of calls, by both subjects.
+fn list_times(calls: &[Call]) -> [f64; 2] {
+    let mut list = Vec::new();
+    calls.iter().for_each(|call| call.encode(&mut list));
+    let mut buf = vec![0; calls.iter().map(|call| 3 + call.room().unwrap_or(0)).sum()];
+    least_times(|subject| subject.calls(black_box(&list), &mut buf))
 }
 
 /// Measures a call on both subjects and prints a line. `number` is how many calls `call` stands for.
 fn line(name: &str, number: usize, mut call: impl FnMut(&dyn Subject) -> Option<i64>) {
-    let subjects: [&dyn Subject; 2] = [&Ours, &Independent];
     if call(&Ours).is_none() {
         println!("{name:54} the library has no such call");
         return;
     }
+    print_times(name, least_times(call).map(|time| time / number as f64));
+}
+
+fn print_times(name: &str, [ours, independent]: [f64; 2]) {
+    println!("{name:54} {ours:>9.1} {independent:>12.1} {:>6.2}", ours / independent);
+}
+
+/// Nanoseconds for a call on each subject, the least of all rounds.
+fn least_times(mut call: impl FnMut(&dyn Subject) -> Option<i64>) -> [f64; 2] {
+    let subjects: [&dyn Subject; 2] = [&Ours, &Independent];
     // Each subject's call as often in a round as fills its time.
     let times = subjects.map(|subject| {
         let once = round(&mut call, subject, 20);
@@ -138,11 +162,10 @@ fn line(name: &str, number: usize, mut call: impl FnMut(&dyn Subject) -> Option<
     let mut least = [f64::INFINITY; 2];
     for _ in 0..ROUNDS {
         for which in [0, 1] {
-            let time = round(&mut call, subjects[which], times[which]) / number as f64;
-            least[which] = least[which].min(time);
+            least[which] = least[which].min(round(&mut call, subjects[which], times[which]));
         }
     }
-    println!("{name:54} {:>9.1} {:>12.1} {:>6.2}", least[0], least[1], least[0] / least[1]);
+    least
 }
 
 /// Nanoseconds for each time over one round.
