@@ -1,6 +1,7 @@
 // What the programs for people at the bench share: what they say to their words, and the line that says it. What is right is said in
 // specs/Saying.antt.
 ghost use mathlib.Core.Path.{_≡_};
+ghost use lib.ListN.{length};
 ghost use Rattle.rules.specs.Text.{decimal};
 ghost use Rattle.words.specs.Words.{wordOf};
 ghost use Rattle.decimal.specs.Laying.{Laying};
@@ -20,11 +21,15 @@ pub enum Two {
     Other,
 }
 
-// Places for a word: the longest that Linux hands to a program, and the byte that ends it.
-pub const WORD: usize = 131072;
-
 // Places for a line.
 pub const LINE: usize = 128;
+
+// Places for a word: the longest that Linux hands to a program, and the byte that ends it.
+pub fn word_buffer() -> [u8; 131072]
+    ensures { λ r. ⌜ 131072 ≡ length r ⌝ }
+{
+    [0u8; 131072]
+}
 
 // Two words as numbers. `counted`: there are as many words as the program takes.
 pub fn two_words(counted: bool, first: &[u8], second: &[u8]) -> Two

@@ -8,7 +8,6 @@ ghost use Rattle.bench.specs.Saying.{saidOf};
 ghost use Rattle.lotmixing.specs.Listing.{heard, takes, OneMore, none, HeardOf, saidToHeard, Answers};
 use bench::LINE;
 use bench::Said;
-use bench::WORD;
 use rules::Mixing;
 use rules::checks;
 use words::Word;
@@ -90,7 +89,7 @@ fn said_to(listed: Listed) -> Said
 fn with_argument(listed: Listed, i: usize) -> Listed
     ensures { λ r. ⌜ OneMore (heard listed) (heard r) ⌝ }
 {
-    let mut word = [0u8; WORD];
+    let mut word = bench::word_buffer();
     let n = os::arg(i, &mut word);
     with_word(listed, &word[..n])
 }

@@ -8,7 +8,6 @@ ghost use Rattle.bench.specs.Printing.{saidToSampling, samplingPrints};
 use bench::LINE;
 use bench::Said;
 use bench::Two;
-use bench::WORD;
 use rules::Samples;
 
 fn said_of(samples: Samples) -> Said
@@ -40,8 +39,8 @@ fn answer(arguments: usize, containers: &[u8], kilograms: &[u8], line: &mut [u8;
 }
 
 fn main() {
-    let mut containers = [0u8; WORD];
-    let mut kilograms = [0u8; WORD];
+    let mut containers = bench::word_buffer();
+    let mut kilograms = bench::word_buffer();
     let mut line = [0u8; LINE];
     let k = os::arg(1, &mut containers);
     let c = os::arg(2, &mut kilograms);

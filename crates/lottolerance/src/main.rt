@@ -8,7 +8,6 @@ ghost use Rattle.bench.specs.Printing.{saidToKind, tolerancePrints};
 use bench::LINE;
 use bench::Said;
 use bench::Two;
-use bench::WORD;
 use rules::Tolerance;
 
 fn said_of(tolerance: Tolerance) -> Said
@@ -66,9 +65,9 @@ fn answer(
 }
 
 fn main() {
-    let mut kind = [0u8; WORD];
-    let mut first = [0u8; WORD];
-    let mut second = [0u8; WORD];
+    let mut kind = bench::word_buffer();
+    let mut first = bench::word_buffer();
+    let mut second = bench::word_buffer();
     let mut line = [0u8; LINE];
     let k = os::arg(1, &mut kind);
     let a = os::arg(2, &mut first);
