@@ -21,7 +21,7 @@ use Rattle.decimal.specs.Laying.{Laid}
 use Rattle.bench.specs.declared.Said.{Said}
 use Rattle.bench.specs.declared.Said.the-variants.{Usage}
 use Rattle.bench.specs.Printing.{allNumbers, saidToMixing, mixingLine, mixingPrints}
-use Rattle.lotmixing.specs.Listing.{Heard, takes, none, hears, HeardOf, saidToNumbers, saidToHeard, Answers}
+use Rattle.lotmixing.specs.Listing.{Heard, takes, none, hears, saidToNumbers, saidToHeard, Answers}
 
 abbrev value : List ℕ → ℕ
 value w = kept (decimalValue w)
@@ -99,10 +99,9 @@ exact [] = refl
 exact (t ∷ ws) = hears-numbers (t ∷ ws) [] (omega arith) ∙ rw (exact-mixing t ws)
 
 -- so the line is right for the words
-pub answers : {n : ℕ} {h : Heard} {d e : List ℕ} {r : ℕ} → HeardOf n h → Laid (mixingLine (saidToHeard h)) d e r → Answers n d e r
+pub answers : {h : Heard} {d e : List ℕ} {r : ℕ} → Laid (mixingLine (saidToHeard h)) d e r → Answers h d e r
 unfolding mixingPrints
-answers {d = d} {e = e} {r = r} w l = record {
-  words = w .words;
-  count = w .count;
-  line = subst (λ (s : Said). Laid (mixingLine s) d e r) (ap saidToHeard (w .right) ∙ exact (w .words)) l;
+answers {d = d} {e = e} {r = r} l = record {
+  kept = l;
+  right = λ words q. subst (λ (s : Said). Laid (mixingLine s) d e r) (ap saidToHeard q ∙ exact words) l;
 }

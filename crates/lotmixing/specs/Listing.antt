@@ -14,7 +14,7 @@ use Rattle.bench.specs.declared.Said.{Said}
 use Rattle.bench.specs.declared.Said.the-variants.{Usage}
 use Rattle.decimal.specs.Laying.{Laid}
 use Rattle.bench.specs.Saying.{saidOf}
-use Rattle.bench.specs.Printing.{mixingPrints}
+use Rattle.bench.specs.Printing.{mixingLine, mixingPrints}
 use Rattle.lotmixing.specs.declared.Listed.{Listed}
 
 -- the words so far: whether each is a number, and their numbers
@@ -58,8 +58,7 @@ saidToNumbers (tolerated ∷ results) = saidOf (mixingOf results tolerated)
 abbrev pub saidToHeard : Heard → Said
 saidToHeard h = pick (h .plain) (saidToNumbers (h .numbers)) Usage
 
--- the program laid down the line to so many words, whichever they were
-pub record Answers (many : ℕ) (d e : List ℕ) (r : ℕ) : Type 0 where
-  pub words : List (List ℕ)
-  pub count : length words ≡ many
-  pub line : Laid (mixingPrints words) d e r
+-- The line laid down by what is heard is the line to the words that were heard, however many they were and however large their numbers.
+pub record Answers (h : Heard) (d e : List ℕ) (r : ℕ) : Type 0 where
+  pub kept : Laid (mixingLine (saidToHeard h)) d e r
+  pub right : (words : List (List ℕ)) → h ≡ hears none words → Laid (mixingPrints words) d e r

@@ -85,6 +85,20 @@ fn said_to(listed: Listed) -> Said
     said_of(mixing::mixable(&values[1..count], tolerated))
 }
 
+// The line to the words, and its length.
+fn answer(listed: Listed, line: &mut [u8; LINE]) -> usize
+    ensures { λ r. ⌜ Answers (heard listed) (now (line .entry)) (now (line .exit)) r ⌝ }
+    ensures { λ r. ⌜ Counts r (now (line .exit)) ⌝ }
+{
+    bench::verdict_line(
+        said_to(listed),
+        b"usage: lotmixing TOLERATED X X ..",
+        b"mixable",
+        b"not mixable",
+        line,
+    )
+}
+
 // The words so far and argument i.
 fn with_argument(listed: Listed, i: usize) -> Listed
     ensures { λ r. ⌜ OneMore (heard listed) (heard r) ⌝ }
@@ -107,22 +121,8 @@ fn read_words(arguments: usize) -> Listed
     all
 }
 
-// The line to all arguments, and its length.
-fn answer(arguments: usize, line: &mut [u8; LINE]) -> usize
-    ensures { λ r. ⌜ Answers (arguments - 1) (now (line .entry)) (now (line .exit)) r ⌝ }
-    ensures { λ r. ⌜ Counts r (now (line .exit)) ⌝ }
-{
-    bench::verdict_line(
-        said_to(read_words(arguments)),
-        b"usage: lotmixing TOLERATED X X ..",
-        b"mixable",
-        b"not mixable",
-        line,
-    )
-}
-
 fn main() {
     let mut line = [0u8; LINE];
-    let n = answer(os::arg_count(), &mut line);
+    let n = answer(read_words(os::arg_count()), &mut line);
     io::write_all(libc::STDOUT_FILENO, &line[..n]);
 }

@@ -8,9 +8,6 @@ use borrow.Author.Needs.{needs}
 use Rattle.lotmixing.proofs.answer.Statement.{statement}
 use Rattle.lotmixing.proofs.answer.Tie as tie
 
-read-words-requires : tie.Need-read-words-requires
-read-words-requires c κs = search needs
-
 said-to-requires : tie.Need-said-to-requires
 said-to-requires c κs = search needs
 
@@ -31,13 +28,12 @@ returns c =
     let l =
     line-answers (text "usage: lotmixing TOLERATED X X ..") (verdict (text "mixable") (text "not mixable")) (omega arith) (verdict-most (text "mixable") (text "not mixable") 127 (omega arith) (omega arith)) _ _ _ (search needs)
     (c .before .before .before .before .before .said-to .ensures) (c .verdict-line .ensures) in
-    (answers (c .before .before .before .before .before .before .read-words .ensures) (l .0), l .1)
+    (answers (l .0), l .1)
 
 pub answer-spec : {M : Type 1} → statement M
 answer-spec =
     tie.close
     (tie.spec
-    read-words-requires
     said-to-requires
     slice-aggregate-verdict-line
     slice-aggregate-verdict-line-2
