@@ -1,1 +1,2 @@
-pub mod SayingLaws
+pub mod LineLaws
+pub mod SameLaws

@@ -1,4 +1,5 @@
-// Runs the calls on standard input, one a line, and prints each answer. The calls on a tally name one of two tallies, 1 or 2:
+// Runs the calls on standard input, one a line, and prints each answer. A line has at most 64 numbers; a mixing of more is not
+// answered. The calls on a tally name one of two tallies, 1 or 2:
 //
 //     open TALLY ATTRIBUTE CONTAINERS F G n ROWS LOWEST HIGHEST BOUND TOLERATED N CRITICAL+1    enter TALLY CONTAINER X
 //     withdraw TALLY CONTAINER    join TALLY (the other)    report TALLY    write TALLY

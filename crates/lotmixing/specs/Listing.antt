@@ -1,31 +1,64 @@
--- What lotmixing says to its words: a tolerated R, and a result in each word behind it.
-use mathlib.Core.Bool.{Bool, false}
+-- What lotmixing keeps of its words, one after the other, and what it says to them.
+use mathlib.Core.Path.{_≡_}
+use mathlib.Core.Bool.{Bool, true, false}
 use mathlib.Core.List.{List, [], _∷_, _++_}
 use Prim.Native.Nat.{ℕ}
 use lib.Dec.{ltb}
 use lib.ListN.{length, take}
 use Rattle.rules.specs.Choice.{pick}
 use Rattle.rules.specs.Mixing.{mixingOf}
+use Rattle.words.specs.Words.{wordOf}
 use Rattle.words.specs.declared.Word.{Word}
 use Rattle.words.specs.declared.Word.the-variants.{Number, NotANumber}
 use Rattle.bench.specs.declared.Said.{Said}
 use Rattle.bench.specs.declared.Said.the-variants.{Usage}
+use Rattle.decimal.specs.Laying.{Laid}
 use Rattle.bench.specs.Saying.{saidOf}
+use Rattle.bench.specs.Printing.{mixingLine, mixingPrints}
 use Rattle.lotmixing.specs.declared.Listed.{Listed}
 
 -- the words so far: whether each is a number, and their numbers
 pub record Heard : Type 0 where
   pub plain : Bool
-  pub results : List ℕ
+  pub numbers : List ℕ
 
 abbrev pub heard : Listed → Heard
-heard l = record { plain = l .plain; results = take (l .count) (l .values) }
+heard l = record { plain = l .plain; numbers = take (l .count) (l .values) }
 
--- One word more. Of the results 61 are kept, one more than may be mixed: every longer list is answered like one of 61.
+-- One word more. 62 numbers are kept, the tolerated R and one result more than may be mixed: every longer list is answered like one
+-- of 62 (shown in proofs/Exact.antt).
 unfoldable pub takes : Heard → Word → Heard
-takes h (Number x) = pick (ltb (length (h .results)) 61) (record { plain = h .plain; results = h .results ++ (x ∷ []) }) h
-takes h NotANumber = record { plain = false; results = h .results }
+takes h (Number x) = pick (ltb (length (h .numbers)) 62) (record { plain = h .plain; numbers = h .numbers ++ (x ∷ []) }) h
+takes h NotANumber = record { plain = false; numbers = h .numbers }
 
-unfoldable pub saidToList : Word → Heard → Said
-saidToList (Number tolerated) h = pick (h .plain) (saidOf (mixingOf (h .results) tolerated)) Usage
-saidToList NotANumber h = Usage
+abbrev pub none : Heard
+none = record { plain = true; numbers = [] }
+
+-- k is h with one word more, whichever it was
+pub record OneMore (h k : Heard) : Type 0 where
+  pub word : List ℕ
+  pub right : k ≡ takes h (wordOf word)
+
+-- words, behind those of which h is heard
+unfoldable pub hears : Heard → List (List ℕ) → Heard
+hears h [] = h
+hears h (w ∷ ws) = hears (takes h (wordOf w)) ws
+
+-- h is what is heard of so many words, whichever they were
+pub record HeardOf (many : ℕ) (h : Heard) : Type 0 where
+  pub words : List (List ℕ)
+  pub count : length words ≡ many
+  pub right : h ≡ hears none words
+
+-- the first number is the tolerated R, the others are the results
+unfoldable pub saidToNumbers : List ℕ → Said
+saidToNumbers [] = Usage
+saidToNumbers (tolerated ∷ results) = saidOf (mixingOf results tolerated)
+
+abbrev pub saidToHeard : Heard → Said
+saidToHeard h = pick (h .plain) (saidToNumbers (h .numbers)) Usage
+
+-- The line laid down by what is heard is the line to the words that were heard, however many they were and however large their numbers.
+pub record Answers (h : Heard) (d e : List ℕ) (r : ℕ) : Type 0 where
+  pub kept : Laid (mixingLine (saidToHeard h)) d e r
+  pub right : (words : List (List ℕ)) → h ≡ hears none words → Laid (mixingPrints words) d e r

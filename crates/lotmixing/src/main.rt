@@ -1,15 +1,19 @@
 // lotmixing TOLERATED X X ..: prints `mixable` or `not mixable`, for component lots with the results X and a tolerated R.
 ghost use mathlib.Core.Path.{_≡_};
+ghost use Prim.Native.Nat.{_-_};
 ghost use Rattle.rules.specs.Numbers.{mixingAnswer};
+ghost use Rattle.words.specs.Words.{wordOf};
+ghost use Rattle.io.specs.Counts.{Counts};
 ghost use Rattle.bench.specs.Saying.{saidOf};
-ghost use Rattle.lotmixing.specs.Listing.{heard, takes, saidToList};
+ghost use Rattle.lotmixing.specs.Listing.{heard, takes, OneMore, none, HeardOf, saidToHeard, Answers};
+use bench::LINE;
 use bench::Said;
 use rules::Mixing;
 use rules::checks;
 use words::Word;
 
-// Results that are kept: one more than may be mixed.
-const KEPT: usize = 61;
+// Numbers that are kept: the tolerated R, and one result more than may be mixed.
+const KEPT: usize = 62;
 
 // The words so far: whether each is a number, and the numbers, of which the first `count` places count.
 struct Listed {
@@ -18,13 +22,25 @@ struct Listed {
     values: [u32; KEPT],
 }
 
+// No words.
+fn empty() -> Listed
+    ensures { λ r. ⌜ heard r ≡ none ⌝ }
+{
+    Listed {
+        plain: true,
+        count: 0,
+        values: [0; KEPT],
+    }
+}
+
 // One word more.
-fn with_word(listed: Listed, word: Word) -> Listed
-    ensures { λ r. ⌜ heard r ≡ takes (heard listed) word ⌝ }
+fn with_word(listed: Listed, word: &[u8]) -> Listed
+    ensures { λ r. ⌜ heard r ≡ takes (heard listed) (wordOf (now (word .entry))) ⌝ }
 {
     let count = listed.count;
     let mut values = listed.values;
-    let Word::Number(x) = word else {
+    let number = words::number(word);
+    let Word::Number(x) = number else {
         return Listed {
             plain: false,
             count: count,
@@ -53,46 +69,60 @@ fn said_of(mixing: Mixing) -> Said
     }
 }
 
-// What is said to a tolerated R and the words behind it.
-fn said_to(tolerated: Word, listed: Listed) -> Said
-    ensures { λ r. ⌜ r ≡ saidToList tolerated (heard listed) ⌝ }
+// What is said to the words.
+fn said_to(listed: Listed) -> Said
+    ensures { λ r. ⌜ r ≡ saidToHeard (heard listed) ⌝ }
 {
-    let Word::Number(r) = tolerated else {
-        return Said::Usage;
-    };
     if !listed.plain {
         return Said::Usage;
     }
     let values = listed.values;
     let count = checks::least(listed.count, KEPT);
-    said_of(mixing::mixable(&values[..count], r))
+    if count == 0 {
+        return Said::Usage;
+    }
+    let tolerated = values[0];
+    said_of(mixing::mixable(&values[1..count], tolerated))
 }
 
-// The arguments from the second to the last.
-fn read_results(arguments: usize) -> Listed {
-    let mut all = Listed {
-        plain: true,
-        count: 0,
-        values: [0; KEPT],
-    };
-    let mut i = 2;
+// The line to the words, and its length.
+fn answer(listed: Listed, line: &mut [u8; LINE]) -> usize
+    ensures { λ r. ⌜ Answers (heard listed) (now (line .entry)) (now (line .exit)) r ⌝ }
+    ensures { λ r. ⌜ Counts r (now (line .exit)) ⌝ }
+{
+    bench::verdict_line(
+        said_to(listed),
+        b"usage: lotmixing TOLERATED X X ..",
+        b"mixable",
+        b"not mixable",
+        line,
+    )
+}
+
+// The words so far and argument i.
+fn with_argument(listed: Listed, i: usize) -> Listed
+    ensures { λ r. ⌜ OneMore (heard listed) (heard r) ⌝ }
+{
+    let mut word = bench::word_buffer();
+    let n = os::arg(i, &mut word);
+    with_word(listed, &word[..n])
+}
+
+// All arguments, of which there are `arguments` with the program's own name.
+fn read_words(arguments: usize) -> Listed
+    ensures { λ r. ⌜ HeardOf (arguments - 1) (heard r) ⌝ }
+{
+    let mut all = empty();
+    let mut i = 1;
     while i < arguments {
-        all = with_word(all, bench::word(i));
+        all = with_argument(all, i);
         i += 1;
     }
     all
 }
 
 fn main() {
-    let arguments = os::arg_count();
-    let mut said = Said::Usage;
-    if 2 <= arguments {
-        said = said_to(bench::word(1), read_results(arguments));
-    }
-    bench::print_verdict(
-        said,
-        b"usage: lotmixing TOLERATED X X ..",
-        b"mixable",
-        b"not mixable",
-    );
+    let mut line = [0u8; LINE];
+    let n = answer(read_words(os::arg_count()), &mut line);
+    io::write_all(libc::STDOUT_FILENO, &line[..n]);
 }

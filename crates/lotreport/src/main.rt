@@ -1,16 +1,31 @@
 // lotreport: reads a sheet from standard input and prints the report of its lot, or the line of its first fault.
+ghost use Rattle.rules.specs.Printing.{printedFor};
+ghost use Rattle.io.specs.Counts.{Counts};
+ghost use Rattle.decimal.specs.Laying.{Laid};
 use libc::STDIN_FILENO;
 use libc::STDOUT_FILENO;
 use rules::Printed;
 
-// The first 4,096 bytes decide what is printed, and no text that is printed is longer than 256 bytes: both are laws of crate
-// sheet.
+// Places for the text: none that is printed is longer.
+const TEXT: usize = 256;
+
+// The text to a sheet, and its length.
+fn answer(sheet: &[u8], text: &mut [u8; TEXT]) -> usize
+    ensures { λ r. ⌜ Laid (printedFor (now (sheet .entry))) (now (text .entry)) (now (text .exit)) r ⌝ }
+    ensures { λ r. ⌜ Counts r (now (text .exit)) ⌝ }
+{
+    let printed = judge::judge(sheet, text);
+    match printed {
+        Printed::Length(n) => n,
+        Printed::BufferShort => 0,
+    }
+}
+
+// The first 4,096 bytes of a sheet decide what is printed: a law of crate reading.
 fn main() {
     let mut sheet = io::buffer();
+    let mut text = [0u8; TEXT];
     let n = io::read_full(STDIN_FILENO, &mut sheet);
-    let mut text = [0u8; 256];
-    let printed = judge::judge(&sheet[..n], &mut text);
-    if let Printed::Length(size) = printed {
-        io::write_all(STDOUT_FILENO, &text[..size]);
-    }
+    let size = answer(&sheet[..n], &mut text);
+    io::write_all(STDOUT_FILENO, &text[..size]);
 }

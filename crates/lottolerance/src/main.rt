@@ -1,12 +1,14 @@
 // lottolerance label LABELLED FOUND, lottolerance pair FIRST SECOND: prints `within` or `out`, by the tables 14G and 14H.
 ghost use mathlib.Core.Path.{_≡_};
 ghost use Rattle.rules.specs.Numbers.{toleranceAnswer};
-ghost use Rattle.rules.specs.Tolerance.{labelOf, pairOf};
+ghost use Rattle.io.specs.Counts.{Counts};
+ghost use Rattle.decimal.specs.Laying.{Laid};
 ghost use Rattle.bench.specs.Saying.{saidOf, saidToTwo};
-ghost use Rattle.lottolerance.specs.Comparing.{Compares};
+ghost use Rattle.bench.specs.Printing.{saidToKind, tolerancePrints};
+use bench::LINE;
 use bench::Said;
+use bench::Two;
 use rules::Tolerance;
-use words::Word;
 
 fn said_of(tolerance: Tolerance) -> Said
     ensures { λ r. ⌜ r ≡ saidOf (toleranceAnswer tolerance) ⌝ }
@@ -18,56 +20,64 @@ fn said_of(tolerance: Tolerance) -> Said
     }
 }
 
-// What is said to a label and a test.
-fn said_to_label(labelled: Word, found: Word) -> Said
-    ensures { λ r. ⌜ r ≡ saidToTwo labelOf labelled found ⌝ }
-{
-    let Word::Number(a) = labelled else {
-        return Said::Usage;
-    };
-    let Word::Number(b) = found else {
-        return Said::Usage;
-    };
-    said_of(tolerance::label(a, b))
-}
-
-// What is said to two tests.
-fn said_to_pair(first: Word, second: Word) -> Said
-    ensures { λ r. ⌜ r ≡ saidToTwo pairOf first second ⌝ }
-{
-    let Word::Number(a) = first else {
-        return Said::Usage;
-    };
-    let Word::Number(b) = second else {
-        return Said::Usage;
-    };
-    said_of(tolerance::pair(a, b))
-}
-
-// What is said to three words.
-fn said_to(kind: &[u8], first: Word, second: Word) -> Said
-    ensures { λ r. ⌜ Compares (now (kind .entry)) first second r ⌝ }
+// What is said to two numbers.
+fn said_to_kind(kind: &[u8], a: u32, b: u32) -> Said
+    ensures { λ r. ⌜ r ≡ saidToKind (now (kind .entry)) a b ⌝ }
 {
     if check::same(kind, b"label") {
-        return said_to_label(first, second);
+        return said_of(tolerance::label(a, b));
     }
     if check::same(kind, b"pair") {
-        return said_to_pair(first, second);
+        return said_of(tolerance::pair(a, b));
     }
     Said::Usage
 }
 
-fn main() {
-    let mut said = Said::Usage;
-    if os::arg_count() == 4 {
-        let mut kind = [0u8; 8];
-        let n = os::arg(1, &mut kind);
-        said = said_to(&kind[..n], bench::word(2), bench::word(3));
-    }
-    bench::print_verdict(
+// What is said to the words.
+fn said_to(kind: &[u8], words: Two) -> Said
+    ensures { λ r. ⌜ r ≡ saidToTwo (saidToKind (now (kind .entry))) words ⌝ }
+{
+    let Two::Numbers(a, b) = words else {
+        return Said::Usage;
+    };
+    said_to_kind(kind, a, b)
+}
+
+// The line to the words, and its length.
+fn answer(
+    arguments: usize,
+    kind: &[u8],
+    first: &[u8],
+    second: &[u8],
+    line: &mut [u8; LINE],
+) -> usize
+    ensures { λ r. ⌜ Laid (tolerancePrints arguments (now (kind .entry)) (now (first .entry)) (now (second .entry))) (now (line .entry)) (now (line .exit)) r ⌝ }
+    ensures { λ r. ⌜ Counts r (now (line .exit)) ⌝ }
+{
+    let said = said_to(kind, bench::two_words(arguments == 4, first, second));
+    bench::verdict_line(
         said,
         b"usage: lottolerance label LABELLED FOUND, or lottolerance pair FIRST SECOND",
         b"within",
         b"out",
+        line,
+    )
+}
+
+fn main() {
+    let mut kind = bench::word_buffer();
+    let mut first = bench::word_buffer();
+    let mut second = bench::word_buffer();
+    let mut line = [0u8; LINE];
+    let k = os::arg(1, &mut kind);
+    let a = os::arg(2, &mut first);
+    let b = os::arg(3, &mut second);
+    let n = answer(
+        os::arg_count(),
+        &kind[..k],
+        &first[..a],
+        &second[..b],
+        &mut line,
     );
+    io::write_all(libc::STDOUT_FILENO, &line[..n]);
 }

@@ -1,36 +1,31 @@
 -- `lotmixing::said_to` meets its contract. Assumes nothing.
-use mathlib.Core.Path.{sym}
 use native.Mathlib.Omega.{arith}
-use lib.Seq.{length-take-le}
-use borrow.Author.Needs.{needs}
 use borrow.Author.Tests.{not-true, not-false}
-use Rattle.lotmixing.proofs.ListingLaws.{listed-sized, said-none, said-other, said-list}
+use Rattle.lotmixing.proofs.ListingLaws.{listed-sized, said-other, said-none, said-list}
+use borrow.Author.Needs.{needs}
 use Rattle.lotmixing.proofs.said_to.Statement.{statement}
 use Rattle.lotmixing.proofs.said_to.Tie as tie
-use Rattle.lotmixing.proofs.said_of.Reads as said-of-reads
-use Rattle.mixing.proofs.mixable.Reads as mixable-reads
-use Rattle.rules.proofs.checks.least.Reads as least-reads
-
-enum-known-tolerated : tie.Need-enum-known-tolerated
-enum-known-tolerated c = search needs
-
-enum-told : tie.Need-enum-told
-enum-told c = search needs
 
 returns : tie.Need-returns
-returns c = said-none _ (c .enum-told .given .1)
-
-returns-2 : tie.Need-returns-2
-returns-2 c = said-other _ (c .before .before .before .tolerated .given .1) (not-true _ (c .if1 .taken))
+returns c = said-other (c .before .before .args .listed) (not-true _ (c .if1 .taken))
 
 least-requires : tie.Need-least-requires
 least-requires c κs = search needs
 
-array-share-prefix-values : tie.Need-array-share-prefix-values
-array-share-prefix-values c = omega (arith, listed-sized (c .before .before .before .before .before .before .before .args .listed) _ (c .before .before .before .before .before .before .before .good .1 .0))
+returns-2 : tie.Need-returns-2
+returns-2 c = said-none (c .before .before .before .before .before .args .listed) _ (listed-sized (c .before .before .before .before .before .args .listed) _ (c .before .before .before .before .before .good .0)) (not-false _ (c .before .before .before .if1 .left)) (c .before .least .ensures) (c .if2 .taken)
 
-slice-aggregate-mixable : tie.Need-slice-aggregate-mixable
-slice-aggregate-mixable c = sym (length-take-le _ _ (omega (arith, listed-sized (c .before .before .before .before .before .before .before .before .args .listed) _ (c .before .before .before .before .before .before .before .before .good .1 .0))))
+array-read-tolerated : tie.Need-array-read-tolerated
+array-read-tolerated c = search needs
+
+sub-mixable : tie.Need-sub-mixable
+sub-mixable c = search needs
+
+part-mixable-start : tie.Need-part-mixable-start
+part-mixable-start c = search needs
+
+part-mixable-end : tie.Need-part-mixable-end
+part-mixable-end c = omega (arith, c .before .before .least .ensures, listed-sized (c .before .before .before .before .before .before .args .listed) _ (c .before .before .before .before .before .before .good .0))
 
 mixable-requires : tie.Need-mixable-requires
 mixable-requires c κs = search needs
@@ -40,19 +35,19 @@ said-of-requires c κs = search needs
 
 returns-3 : tie.Need-returns-3
 returns-3 c =
-    said-list (c .before .before .before .before .before .before .before .before .before .before .args .listed) _ (listed-sized (c .before .before .before .before .before .before .before .before .before .before .args .listed) _ (c .before .before .before .before .before .before .before .before .before .before .good .1 .0)) (c .before .before .before .before .before .before .before .before .tolerated .given .1) (not-false _ (c .before .before .before .before .before .if1 .left)) (c .before .before .before .least .ensures) (c .before .mixable .ensures) (c .said-of .ensures)
+    said-list (c .before .before .before .before .before .before .before .before .before .args .listed) _ (listed-sized (c .before .before .before .before .before .before .before .before .before .args .listed) _ (c .before .before .before .before .before .before .before .before .before .good .0)) (not-false _ (c .before .before .before .before .before .before .before .if1 .left)) (c .before .before .before .before .before .least .ensures) (omega (arith, c .before .before .before .before .if2 .left)) (c .before .mixable .ensures) (c .said-of .ensures)
 
 pub said-to-spec : {M : Type 1} → statement M
 said-to-spec =
     tie.close
     (tie.spec
-    enum-known-tolerated
-    enum-told
     returns
-    returns-2
     least-requires
-    array-share-prefix-values
-    slice-aggregate-mixable
+    returns-2
+    array-read-tolerated
+    sub-mixable
+    part-mixable-start
+    part-mixable-end
     mixable-requires
     said-of-requires
     returns-3)
