@@ -102,12 +102,10 @@ fn list_lines(prng: &mut Prng) {
         let withdrawn = plan.results.iter().map(|&(container, _)| Call::Withdraw { on: 0, container });
         let emptied = [entered.clone(), withdrawn.collect()].concat();
         call_line(&format!("withdraw {held} held, down to none"), held, &entered, &emptied);
-        let half = plan.results.len() / 2;
-        let (first, second) = (enters(0, &plan.results[..half]), enters(1, &plan.results[half..]));
-        let apart = [opened, first, open(1, &plan), second].concat();
-        let joined = [apart.clone(), vec![Call::Join { on: 0, other: 1 }]].concat();
-        let [apart, joined] = [apart, joined].map(|calls| vec![calls; 20].concat());
-        call_line(&format!("join     {half} and {} held", held - half), 20, &apart, &joined);
+        let other = [open(1, &plan), enters(1, &plan.results)].concat();
+        let join = [opened.clone(), vec![Call::Join { on: 0, other: 1 }]].concat();
+        let again = |calls: Vec<Call>| [other.clone(), vec![calls; 100].concat()].concat();
+        call_line(&format!("join     {held} held into none"), 100, &again(opened), &again(join));
         let reported = [entered.clone(), vec![Call::Report { on: 0, room: 100 }; 100]].concat();
         call_line(&format!("report   {held} held"), 100, &entered, &reported);
         let written = [entered.clone(), vec![Call::Write { on: 0, room: 1_000 }; 100]].concat();
