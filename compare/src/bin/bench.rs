@@ -19,17 +19,21 @@ use compare::subject::{Independent, Subject};
 /// Rounds taken for each measurement, ours and the independent one in turn: many short ones, so that
 /// some of them run without another program in between.
 const ROUNDS: usize = 250;
+/// Sheets that are judged one after the other: as many different ones as make the processor's guesses those of a day's work.
+const SHEETS: usize = 64;
 /// About how long one round takes.
 const ROUND_NANOSECONDS: f64 = 4e5;
 
 fn main() {
     println!("{:54} {:>9} {:>12} {:>6}", "nanoseconds a call", "ours", "independent", "ratio");
     let mut prng = Prng::new(1);
-    let full = Plan::full(&mut prng);
+    let full: Vec<_> = (0..SHEETS).map(|_| Plan::full(&mut prng)).collect();
     sheet_line("60 results, 96 rows, 56 critical values", &full);
+    sheet_line("the same, one sheet again and again", &full[..1]);
     println!();
     for held in [5, 20, 60] {
-        sheet_line(&format!("{held} results, 1 row, 1 critical value"), &plain(&mut prng, held));
+        let plans: Vec<_> = (0..SHEETS).map(|_| plain(&mut prng, held)).collect();
+        sheet_line(&format!("{held} results, 1 row, 1 critical value"), &plans);
     }
     println!();
     beside_lines(&mut prng);
@@ -45,16 +49,21 @@ fn plain(prng: &mut Prng, held: usize) -> Plan {
     plan.criticals = vec![(held as u16, 155)];
     plan.rows = vec![Row { lowest: 5, highest: 60, mean_bound: 10_000, tolerated: 200 }];
     for (place, result) in plan.results.iter_mut().enumerate() {
-        *result = (1 + place as u16 * 16, 9_800 - place as u16 % 7 * 10);
+        *result = (1 + place as u16 * 16, 9_800 - prng.below(200) as u16);
     }
     plan
 }
 
-fn sheet_line(name: &str, plan: &Plan) {
-    let sheet = plan.sheet();
+/// The sheets of several plans, one after the other.
+fn sheet_line(name: &str, plans: &[Plan]) {
+    let sheets: Vec<_> = plans.iter().map(Plan::sheet).collect();
     let mut buf = vec![0; LONGEST_WRITTEN];
-    line(&format!("judge    {name}"), 1, |subject| subject.judge(black_box(&sheet), &mut buf));
-    line(&format!("rewrite  {name}"), 1, |subject| subject.rewrite(black_box(&sheet), &mut buf));
+    line(&format!("judge    {name}"), sheets.len(), |subject| {
+        sheets.iter().map(|sheet| subject.judge(black_box(sheet), &mut buf)).sum()
+    });
+    line(&format!("rewrite  {name}"), sheets.len(), |subject| {
+        sheets.iter().map(|sheet| subject.rewrite(black_box(sheet), &mut buf)).sum()
+    });
 }
 
 /// The calls beside the tally, each over a thousand pairs of numbers, so that no branch is foretold.
