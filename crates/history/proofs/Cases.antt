@@ -8,7 +8,6 @@ use Rattle.rules.specs.declared.Lot.{Lot}
 use Rattle.rules.specs.declared.Card.{Card}
 use Rattle.rules.specs.Places.{total, shared}
 use Rattle.rules.specs.Cards.{rowsGood, criticalsGood, agree}
-use Rattle.rules.specs.Ledger.{held}
 use Rattle.history.specs.Calls.{Calls, start, opens, enters, withdraws, joins, judge, answers, counts}
 
 -- an attribute and the number of containers

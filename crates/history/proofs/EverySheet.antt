@@ -1,15 +1,15 @@
 -- What is printed for every sheet. Assumes nothing.
-use Prim.Native.Nat.{ℕ, _≤_, _<_}
+use Prim.Native.Nat.{ℕ, _≤_}
 use native.Mathlib.Omega.{arith}
 use native.Mathlib.Decide.{decLe}
-use mathlib.Core.Path.{_≡_, refl, sym, ap, _∙_, subst}
+use mathlib.Core.Path.{_≡_, refl, ap, _∙_}
 use mathlib.Core.Bool.{Bool, true, false}
 use mathlib.Core.List.{List, _++_}
 use lib.Dec.{eqb, ltb}
 use lib.ListN.{length, take, drop}
 use lib.Seq.{take-at, drop-at}
 use borrow.Author.Tests.{eqb-false, lt-ltb, le-ltb}
-use denote.Ref.{RefT, now}
+use denote.Ref.{now}
 use Rattle.rules.specs.Choice.{pick}
 use Rattle.rules.specs.Limits.{leastReported}
 use Rattle.rules.specs.Numbers.{Told, wrote, leaves}
@@ -19,7 +19,7 @@ use Rattle.rules.specs.Cards.{headGood}
 use Rattle.rules.specs.Ledger.{Ledger, held, withPlaces, enterNumber}
 use Rattle.rules.specs.Report.{reportOf}
 use Rattle.rules.specs.Reading.{Outcome, accepted, refused, readOf}
-use Rattle.rules.specs.Printing.{refusedLine, printed, printedFor}
+use Rattle.rules.specs.Printing.{printed, printedFor}
 use Rattle.rules.specs.declared.Lot.{Lot}
 use Rattle.rules.specs.declared.Card.{Card}
 use Rattle.rules.proofs.Tests.{and-left}
@@ -27,7 +27,6 @@ use Rattle.rules.proofs.CardLaws.{open-card}
 use Rattle.rules.proofs.Bounds.{good-head}
 use Rattle.reading.specs.Spelling.{Entry, Made, opens, enters, entriesOf}
 use Rattle.reading.proofs.Spelt.{spelled}
-use Rattle.history.specs.Verdict.{ReportLines}
 use Rattle.history.specs.EverySheet.{Shown, faulty, few, judged, EverySheet}
 use Rattle.history.proofs.Printed.{lines}
 

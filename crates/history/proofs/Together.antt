@@ -1,21 +1,18 @@
 -- The tally and the ledger after the same calls. Assumes nothing.
-use Prim.Native.Nat.{ℕ, zero, suc, _≤_}
-use native.Mathlib.Omega.{arith}
+use Prim.Native.Nat.{ℕ}
 use native.Mathlib.Decide.{ℕ-discrete}
 use mathlib.Core.Path.{_≡_, refl, sym, ap, ap₂, _∙_, subst}
 use mathlib.Core.List.{List, _∷_}
-use lib.ListN.{getD, replicate}
-use Rattle.rules.specs.Limits.{mostRows, widest}
 use Rattle.rules.specs.Numbers.{numberOf}
-use Rattle.rules.specs.Ledger.{Ledger, Judged, freshLot, freshCard, freshLedger, openOn, enterOn, withdrawOn, joinOn}
+use Rattle.rules.specs.Ledger.{Ledger, Judged, freshLedger, openOn, enterOn, withdrawOn, joinOn}
 use Rattle.rules.specs.Cards.{openNumber}
 use Rattle.rules.specs.declared.Lot.{Lot}
 use Rattle.rules.specs.declared.Card.{Card}
 use Rattle.tally.specs.declared.Tally.{Tally}
 use Rattle.tally.specs.declared.Outcome.{Outcome}
 use Rattle.tally.specs.View.{view, stored}
-use Rattle.tally.specs.Calls.{Sound, Opened, answer, freshTally}
-use Rattle.tally.proofs.Answer.{emptied-sound}
+use Rattle.tally.specs.Calls.{Sound, Opened, answer}
+use Rattle.tally.proofs.Answer.{fresh-sound}
 use Rattle.history.specs.Calls.{Calls, judge, ledger, answers}
 use Rattle.history.specs.Run.{Run, begun, taken, opened, entered, withdrawn, joined, read}
 use Rattle.history.proofs.Sheets.{made-ledger, made-answers}
@@ -25,16 +22,6 @@ pub record Together (cs : Calls) (ns : List ℕ) (t : Tally) : Type 0 where
   pub same : view t ≡ ledger cs
   pub judged : ns ≡ answers cs
   pub sound : Sound t
-
-zeros : (n i : ℕ) → getD (replicate n 0) i 0 ≤ widest
-zeros zero i = omega arith
-zeros (suc n) zero = omega arith
-zeros (suc n) (suc i) = zeros n i
-
-fresh-sound : Sound freshTally
-fresh-sound =
-    emptied-sound freshLot freshCard (omega arith) (λ h. absurd (omega arith)) (omega arith)
-    (record { factor = omega arith; offset = omega arith; seeds = omega arith; critical = refl; lowest = refl; highest = refl; bound = refl; tolerated = refl; narrow = zeros mostRows })
 
 -- a refused open leaves a sound tally sound
 open-sound : (t : Tally) (l : Lot) (c : Card) (r : Outcome) → Sound t → Opened t l c r → Sound (r .tally)

@@ -4,14 +4,12 @@ use mathlib.Core.List.{List, _++_}
 use Prim.Native.Nat.{ℕ, zero, suc, _+_, _-_, _≤_, _<_}
 use native.Mathlib.Omega.{arith}
 use borrow.Author.Tests.{eq-eqb, ne-eqb, lt-ltb, le-ltb}
-use lib.ListN.{length, getD, take, drop, replicate, length-drop, drop-of-length-le}
+use lib.ListN.{length, getD, take, drop, length-drop, drop-of-length-le}
 use lib.Seq.{drop-drop, take-all}
-use Rattle.rules.specs.Limits.{mostRows, widest}
-use Rattle.rules.specs.Ledger.{Ledger, freshLot, freshCard, freshLedger, joinOn}
+use Rattle.rules.specs.Ledger.{Ledger, freshLedger, joinOn}
 use Rattle.tally.specs.declared.Tally.{Tally}
 use Rattle.tally.specs.View.{view, stored}
-use Rattle.tally.specs.Calls.{Sound, freshTally}
-use Rattle.tally.proofs.Answer.{emptied-sound}
+use Rattle.tally.specs.Calls.{freshTally}
 use Rattle.lists.specs.Widths.{callWidth, answerWidth}
 use Rattle.lists.specs.Steps.{Step, judgedStep, stepOn}
 use Rattle.lists.specs.Runs.{Both, Run, firstStep, secondStep, bothOn, ended, runOn}
@@ -102,16 +100,6 @@ module _ (list : List ℕ) (goal : Run) (from at : ℕ) (g h : Ledger) (b : List
 pub at-first : (list b : List ℕ) → Going list (runOn (length list) list freshLedger freshLedger 0 b) 0 0 (view freshTally) (view freshTally) b
 unfolding stored
 at-first list b = record { fuel = length list; enough = omega arith; same = refl }
-
-zeros : (n i : ℕ) → getD (replicate n 0) i 0 ≤ widest
-zeros zero i = omega arith
-zeros (suc n) zero = omega arith
-zeros (suc n) (suc i) = zeros n i
-
-pub first-sound : Sound freshTally
-first-sound =
-    emptied-sound freshLot freshCard (omega arith) (λ h. absurd (omega arith)) (omega arith)
-    (record { factor = omega arith; offset = omega arith; seeds = omega arith; critical = refl; lowest = refl; highest = refl; bound = refl; tolerated = refl; narrow = zeros mostRows })
 
 -- ---- at the end
 pub none-left : (list : List ℕ) (from : ℕ) → length list ≤ from → callWidth (drop from list) ≡ 0

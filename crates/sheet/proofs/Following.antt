@@ -1,5 +1,5 @@
 -- The lines of a sheet one after the other: one law for each way the reader goes.
-use mathlib.Core.Path.{_≡_, refl, sym, ap, _∙_}
+use mathlib.Core.Path.{_≡_, refl, sym, ap, _∙_, subst}
 use mathlib.Core.Bool.{Bool, true, false}
 use mathlib.Core.List.{List}
 use Prim.Native.Nat.{ℕ, _+_, _-_, _≤_, _<_}
@@ -20,8 +20,10 @@ use Rattle.rules.proofs.LineLaws.{lines-ended, lines-unended, lines-none}
 use Rattle.frames.specs.declared.Line.{Line}
 use Rattle.frames.specs.Cutting.{LineAt}
 use Rattle.reading.proofs.Going.{never}
+use Rattle.tally.specs.Calls.{Sound, freshTally}
 use Rattle.tally.specs.declared.Tally.{Tally}
-use Rattle.sheet.specs.declared.Answer.the-variants.{Accepted}
+use Rattle.tally.proofs.Answer.{fresh-sound}
+use Rattle.sheet.specs.declared.Answer.the-variants.{Accepted, Refused}
 use Rattle.sheet.specs.declared.Reading.{Reading}
 use Rattle.steps.specs.declared.Progress.{Progress}
 use Rattle.steps.specs.declared.Stepped.{Stepped}
@@ -135,3 +137,7 @@ module _ (v : Outcome) (r : Taken) (l : Lists) (m : ℕ) (i : m ≡ numberOf (r 
           sound = h .sound (omega (arith, e));
           empty = tt;
         })
+
+-- a refusal hands back the fresh tally
+pub refused-tells : (e : Refusal) (n : ℕ) (t : Tally) → t ≡ freshTally → Tells (refused (numberOf e) n) (record { answer = Refused e n; tally = t })
+refused-tells e n t q = record { right = refl; sound = subst Sound (sym q) fresh-sound; empty = q }

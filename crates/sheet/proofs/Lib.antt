@@ -1,2 +1,1 @@
-pub mod Fresh
 pub mod Following

@@ -3,11 +3,6 @@ use lib.ListN.{length}
 use borrow.Author.Needs.{needs}
 use Rattle.calls.proofs.run.Statement.{statement}
 use Rattle.calls.proofs.run.Tie as tie
-use Rattle.calls.proofs.run.Reads as reads
-use Rattle.calls.proofs.run.Lts as lts
-use Rattle.calls.proofs.lines.line_at.Reads as line-at-reads
-use Rattle.calls.proofs.step.Reads as step-reads
-use Rattle.tally.proofs.fresh.Reads as fresh-reads
 
 abbrev Inv-loop : tie.InvT-loop
 Inv-loop text both₀ at₀ both at = Unit

@@ -4,8 +4,6 @@ use borrow.Author.Needs.{needs}
 use Rattle.host.specs.Coding.{told}
 use Rattle.host.proofs.gelvorin_judge.Statement.{statement}
 use Rattle.host.proofs.gelvorin_judge.Tie as tie
-use Rattle.host.proofs.printed_code.Reads as printed-code-reads
-use Rattle.judge.proofs.judge.Reads as judge-reads
 
 judge-requires : tie.Need-judge-requires
 judge-requires c κs = search needs

@@ -4,8 +4,6 @@ use borrow.Author.Needs.{needs}
 use Rattle.host.specs.Coding.{coded}
 use Rattle.host.proofs.gelvorin_label.Statement.{statement}
 use Rattle.host.proofs.gelvorin_label.Tie as tie
-use Rattle.host.proofs.tolerance_code.Reads as tolerance-code-reads
-use Rattle.tolerance.proofs.label.Reads as label-reads
 
 label-requires : tie.Need-label-requires
 label-requires c κs = search needs

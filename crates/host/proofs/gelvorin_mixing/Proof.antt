@@ -4,8 +4,6 @@ use borrow.Author.Needs.{needs}
 use Rattle.host.specs.Coding.{coded}
 use Rattle.host.proofs.gelvorin_mixing.Statement.{statement}
 use Rattle.host.proofs.gelvorin_mixing.Tie as tie
-use Rattle.host.proofs.mixing_code.Reads as mixing-code-reads
-use Rattle.mixing.proofs.mixable.Reads as mixable-reads
 
 mixable-requires : tie.Need-mixable-requires
 mixable-requires c κs = search needs

@@ -4,8 +4,6 @@ use borrow.Author.Needs.{needs}
 use Rattle.host.specs.Coding.{coded}
 use Rattle.host.proofs.gelvorin_pair.Statement.{statement}
 use Rattle.host.proofs.gelvorin_pair.Tie as tie
-use Rattle.host.proofs.tolerance_code.Reads as tolerance-code-reads
-use Rattle.tolerance.proofs.pair.Reads as pair-reads
 
 pair-requires : tie.Need-pair-requires
 pair-requires c κs = search needs

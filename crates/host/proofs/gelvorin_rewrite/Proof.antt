@@ -3,10 +3,6 @@ use borrow.Author.Needs.{needs}
 use Rattle.host.proofs.CodingLaws.{rewrite-accepted, rewrite-refused}
 use Rattle.host.proofs.gelvorin_rewrite.Statement.{statement}
 use Rattle.host.proofs.gelvorin_rewrite.Tie as tie
-use Rattle.host.proofs.written_code.Reads as written-code-reads
-use Rattle.rules.proofs.Refusal.number.Reads as number-reads
-use Rattle.sheet.proofs.read.Reads as read-reads
-use Rattle.writer.proofs.write.Reads as write-reads
 
 read-requires : tie.Need-read-requires
 read-requires c κs = search needs

@@ -4,8 +4,6 @@ use borrow.Author.Needs.{needs}
 use Rattle.host.specs.Coding.{coded}
 use Rattle.host.proofs.gelvorin_samples.Statement.{statement}
 use Rattle.host.proofs.gelvorin_samples.Tie as tie
-use Rattle.host.proofs.samples_code.Reads as samples-code-reads
-use Rattle.sampling.proofs.primary_samples.Reads as primary-samples-reads
 
 primary-samples-requires : tie.Need-primary-samples-requires
 primary-samples-requires c κs = search needs

@@ -7,7 +7,8 @@ use Rattle.rules.specs.Ledger.{freshLedger}
 use Rattle.tally.specs.View.{view}
 use Rattle.tally.specs.Calls.{Sound}
 use Rattle.lists.specs.Runs.{runOn}
-use Rattle.lists.proofs.RunLaws.{Going, at-first, first-sound, over, none-left, at-end, at-short, at-turn, first-made, second-made, join-first, join-second, join-first-itself, join-second-itself}
+use Rattle.tally.proofs.Answer.{fresh-sound}
+use Rattle.lists.proofs.RunLaws.{Going, at-first, over, none-left, at-end, at-short, at-turn, first-made, second-made, join-first, join-second, join-first-itself, join-second-itself}
 use Rattle.lists.proofs.WidthLaws.{next-call, some-byte}
 use borrow.Author.Needs.{needs}
 use Rattle.lists.proofs.gelvorin_calls.Statement.{statement}
@@ -30,7 +31,7 @@ fresh-requires-2 : tie.Need-fresh-requires-2 Inv-loop μ-loop
 fresh-requires-2 c κs = search needs
 
 loop-holds : tie.Need-loop-holds Inv-loop μ-loop
-loop-holds c = (search needs, search needs, rw (c .before .fresh .ensures) first-sound, rw (c .fresh2 .ensures) first-sound, rw (c .before .fresh .ensures, c .fresh2 .ensures) (at-first _ _))
+loop-holds c = (search needs, search needs, rw (c .before .fresh .ensures) fresh-sound, rw (c .fresh2 .ensures) fresh-sound, rw (c .before .fresh .ensures, c .fresh2 .ensures) (at-first _ _))
 
 sub-call-width : tie.Need-sub-call-width Inv-loop μ-loop
 sub-call-width c = search needs

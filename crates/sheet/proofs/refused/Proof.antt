@@ -1,5 +1,5 @@
 -- `sheet::refused` meets its contract.
-use Rattle.sheet.proofs.Fresh.{refused-tells}
+use Rattle.sheet.proofs.Following.{refused-tells}
 use borrow.Author.Needs.{needs}
 use Rattle.sheet.proofs.refused.Statement.{statement}
 use Rattle.sheet.proofs.refused.Tie as tie

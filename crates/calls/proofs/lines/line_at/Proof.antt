@@ -4,12 +4,6 @@ use lib.ListN.{length}
 use borrow.Author.Needs.{needs}
 use Rattle.calls.proofs.lines.line_at.Statement.{statement}
 use Rattle.calls.proofs.lines.line_at.Tie as tie
-use Rattle.calls.proofs.lines.line_at.Reads as reads
-use Rattle.calls.proofs.lines.line_at.Lts as lts
-use Rattle.calls.proofs.lines.goes_on.Reads as goes-on-reads
-use Rattle.calls.proofs.lines.keep.Reads as keep-reads
-use Rattle.calls.proofs.lines.value.Reads as value-reads
-use Rattle.calls.proofs.lines.word_end.Reads as word-end-reads
 
 abbrev Inv-loop : tie.InvT-loop
 Inv-loop text at numbers₀ first end₀ count₀ numbers end count = (first ≤ end) × (end ≤ length text) × (count ≤ end)

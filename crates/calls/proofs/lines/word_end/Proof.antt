@@ -3,8 +3,6 @@ use lib.ListN.{length}
 use borrow.Author.Needs.{needs}
 use Rattle.calls.proofs.lines.word_end.Statement.{statement}
 use Rattle.calls.proofs.lines.word_end.Tie as tie
-use Rattle.calls.proofs.lines.word_end.Reads as reads
-use Rattle.calls.proofs.lines.word_end.Lts as lts
 
 abbrev Inv-loop : tie.InvT-loop
 Inv-loop text at i₀ i = (at ≤ i) × (i ≤ length text)

@@ -4,9 +4,6 @@ use lib.Seq.{length-take-le}
 use borrow.Author.Needs.{needs}
 use Rattle.calls.proofs.print.text.Statement.{statement}
 use Rattle.calls.proofs.print.text.Tie as tie
-use Rattle.calls.proofs.print.text.Reads as reads
-use Rattle.calls.proofs.print.text.Lts as lts
-use Rattle.io.proofs.write_all.Reads as write-all-reads
 
 -- src/print.rt:24:38
 slice-aggregate-write-all : tie.Need-slice-aggregate-write-all

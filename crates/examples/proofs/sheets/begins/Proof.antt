@@ -4,9 +4,6 @@ use lib.Seq.{length-take-le}
 use borrow.Author.Needs.{needs}
 use Rattle.examples.proofs.sheets.begins.Statement.{statement}
 use Rattle.examples.proofs.sheets.begins.Tie as tie
-use Rattle.examples.proofs.sheets.begins.Reads as reads
-use Rattle.examples.proofs.sheets.begins.Lts as lts
-use Rattle.check.proofs.same.Reads as same-reads
 
 -- src/sheets.rt:42:28
 slice-aggregate-same : tie.Need-slice-aggregate-same

@@ -2,10 +2,6 @@ use Prim.Native.Nat.{_-_}
 use borrow.Author.Needs.{needs}
 use Rattle.examples.proofs.sheets.group.Statement.{statement}
 use Rattle.examples.proofs.sheets.group.Tie as tie
-use Rattle.examples.proofs.sheets.group.Reads as reads
-use Rattle.examples.proofs.sheets.group.Lts as lts
-use Rattle.examples.proofs.sheets.agrees.Reads as agrees-reads
-use Rattle.std.proofs.num.wrapping_add_u32.Reads as wrapping-add-u32-reads
 
 abbrev Inv-loop : tie.InvT-loop
 Inv-loop name count right₀ all₀ n₀ right all n = Unit
