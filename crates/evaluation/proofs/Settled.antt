@@ -6,38 +6,23 @@ use mathlib.Core.Path.{_≡_, refl, sym, ap, ap₂, _∙_}
 use mathlib.Core.List.{List, [], _∷_, _++_, append-nil}
 use lib.Dec.{eqb, leb, ltb}
 use lib.ListN.{length, length-append}
-use borrow.Author.Tests.{ne-eqb, eqb-true, leb-true, leb-false}
+use borrow.Author.Tests.{eqb-true, leb-true, leb-false}
 use Rattle.rules.specs.Choice.{pick}
 use Rattle.rules.specs.Limits.{leastReported}
 use Rattle.rules.specs.Ledger.{Ledger}
 use Rattle.rules.specs.Figures.{Figures}
 use Rattle.rules.specs.Report.{reportText}
 use Rattle.rules.specs.Lines.{ended, cutFrom}
-use Rattle.rules.specs.Frames.{lotFrame, cardFrame, criticalFrame, rangeFrame, resultFrame, endFrame, kindFrame, frameOf}
+use Rattle.rules.specs.Frames.{frameOf}
 use Rattle.rules.specs.Reading.{State, Next, goes, stops, Outcome, accepted, refused, stepOf, after, readFrom, readOf, atStart}
 use Rattle.rules.specs.Printing.{refusedLine, printed, printedFor}
-use Rattle.rules.specs.declared.Frame.the-variants.{Bad}
+use Rattle.reading.proofs.Prefix.{long-bad}
 use Rattle.evaluation.specs.Entries.{Entry, gathered, Holds}
 use Rattle.evaluation.specs.Quick.{Shown, shows, shownAfter, report, atEnd, resultsAfter, stepAt, quickFrom, quickOf, quickBegins}
 use Rattle.evaluation.proofs.EntryLaws.{held-is, figures-are}
 use Rattle.evaluation.proofs.Steps.{Agrees, Going, Alike, step-alike}
 
 -- ---- a line of more than 14 bytes is bad
-bad-either : (b : Bool) → pick b Bad Bad ≡ Bad
-bad-either true = refl
-bad-either false = refl
-
-long-bad : (d : List ℕ) → 14 < length d → frameOf d ≡ Bad
-unfolding frameOf kindFrame lotFrame cardFrame criticalFrame rangeFrame resultFrame endFrame
-long-bad d h =
-    simp (
-      ne-eqb (length d) 8 (λ e. omega arith),
-      ne-eqb (length d) 10 (λ e. omega arith),
-      ne-eqb (length d) 14 (λ e. omega arith),
-      ne-eqb (length d) 4 (λ e. omega arith),
-      bad-either,
-    )
-
 long-line : (rest sofar : List ℕ) (s : State) (n : ℕ) → 14 < length sofar → readFrom (cutFrom sofar rest) s n ≡ refused 1 (n + 1)
 unfolding cutFrom readFrom
 long-line [] [] s n h = absurd (omega arith)

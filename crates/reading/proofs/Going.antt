@@ -1,4 +1,4 @@
--- What a step of the reading that goes on tells, and an enter that is accepted.
+-- What a step of the reading that goes on tells, a sheet that is accepted, and an enter that is.
 use mathlib.Core.Path.{_≡_, refl}
 use mathlib.Core.Bool.{Bool, true, false, _&&_, _||_}
 use Prim.Native.Nat.{ℕ, _+_, _≤_, _<_}
@@ -9,7 +9,7 @@ use Rattle.rules.specs.Choice.{pick}
 use Rattle.rules.specs.Limits.{mostHeld, highestX}
 use Rattle.rules.specs.Places.{holds, isHeld, one}
 use Rattle.rules.specs.Ledger.{Ledger, Judged, containers, held, enterNumber, enterOn}
-use Rattle.rules.specs.Reading.{State, Next, goes, stops, andThen}
+use Rattle.rules.specs.Reading.{State, Next, goes, stops, accepted, refused, andThen}
 use Rattle.rules.proofs.Tests.{and-left, and-right, or-left, or-right}
 use Rattle.rules.proofs.PlaceLaws.{free-is, total-put}
 
@@ -18,6 +18,16 @@ never q = absurd (let z : _≡_ {A = ℕ} 0 1 = cc in omega arith)
 
 pub same : {s u : State} → goes s ≡ goes u → s ≡ u
 same q = cc
+
+-- what a sheet that is accepted tells
+pub refused-not : {A : Type 0} {g : Ledger} {m e n : ℕ} → refused e n ≡ accepted g m → A
+refused-not q = absurd (let z : _≡_ {A = ℕ} 0 1 = cc in omega arith)
+
+pub same-ledger : {g h : Ledger} {m n : ℕ} → accepted g m ≡ accepted h n → g ≡ h
+same-ledger q = cc
+
+pub same-lines : {g h : Ledger} {m n : ℕ} → accepted g m ≡ accepted h n → m ≡ n
+same-lines q = cc
 
 pub if-goes : (b : Bool) (x : Next) (e : ℕ) (u : State) → pick b x (stops e) ≡ goes u → (b ≡ true) × (x ≡ goes u)
 if-goes true x e u q = (refl, q)

@@ -22,7 +22,7 @@ use Rattle.rules.specs.declared.Frame.{Frame}
 use Rattle.rules.specs.declared.Frame.the-variants as frame
 use Rattle.rules.proofs.PlaceLaws.{total-none}
 use Rattle.reading.specs.Spelling.{Entry, Made, opens, enters, entryOf, entriesIn, entriesOf, Spelled}
-use Rattle.reading.proofs.Going.{never, same, if-goes, then-goes, enter-more, between}
+use Rattle.reading.proofs.Going.{never, same, refused-not, same-ledger, if-goes, then-goes, enter-more, between}
 
 -- as many results are held as were entered
 pub made-held : (l : Lot) (c : Card) (es : List Entry) (g : Ledger) → Made l c es g → held g ≡ length es
@@ -121,12 +121,6 @@ module _ (s u : State) (es : List Entry) (h : So s es) where
   so-step (frame.End n) q = rw append-nil (so-end n q)
 
 -- ---- line by line
-not-both : {A : Type 0} {g : Ledger} {m e n : ℕ} → refused e n ≡ accepted g m → A
-not-both q = absurd (let z : _≡_ {A = ℕ} 0 1 = cc in omega arith)
-
-one-ledger : {g h : Ledger} {m n : ℕ} → accepted g m ≡ accepted h n → g ≡ h
-one-ledger q = cc
-
 so-read : (ls : List Line) (s : State) (n : ℕ) (es : List Entry) (g : Ledger) (m : ℕ) → So s es → readFrom ls s n ≡ accepted g m → Spelled (es ++ entriesIn ls) g
 unfolding readFrom entriesIn
 so-read [] s n es g m h q = by (eqb (s .before) 6) refl q
@@ -134,9 +128,9 @@ so-read [] s n es g m h q = by (eqb (s .before) 6) refl q
     by : (b : Bool) → eqb (s .before) 6 ≡ b → pick b (accepted (s .ledger) n) (refused 2 (n + 1)) ≡ accepted g m → Spelled (es ++ []) g
     by true e q =
         let i = eqb-true (s .before) 6 e in
-        rw (append-nil, ← one-ledger q) (record { lot = s .lot; card = s .card; made = h .late (omega arith) })
-    by false e q = not-both q
-so-read (unended ∷ ls) s n es g m h q = not-both q
+        rw (append-nil, ← same-ledger q) (record { lot = s .lot; card = s .card; made = h .late (omega arith) })
+    by false e q = refused-not q
+so-read (unended ∷ ls) s n es g m h q = refused-not q
 so-read (ended d ∷ ls) s n es g m h q = by (stepOf (frameOf d) s) refl (λ u i j. so-read ls u (n + 1) (es ++ entryOf (frameOf d)) g m i j) q
   where
     by : (x : Next) → stepOf (frameOf d) s ≡ x
@@ -144,7 +138,7 @@ so-read (ended d ∷ ls) s n es g m h q = by (stepOf (frameOf d) s) refl (λ u i
         → after x (n + 1) (λ t. readFrom ls t (n + 1)) ≡ accepted g m
         → Spelled (es ++ (entryOf (frameOf d) ++ entriesIn ls)) g
     by (goes u) e rest q = rw append-assoc at (rest u (so-step s u es h (frameOf d) e) q)
-    by (stops e) f rest q = not-both q
+    by (stops e) f rest q = refused-not q
 
 -- the lot and the card that the lines say, and their results in their order
 pub spelled : (sheet : List ℕ) (g : Ledger) (lines : ℕ) → readOf sheet ≡ accepted g lines → Spelled (entriesOf sheet) g

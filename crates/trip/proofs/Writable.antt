@@ -32,6 +32,7 @@ use Rattle.tally.specs.Calls.{Narrow, Sized, Sound}
 use Rattle.tally.specs.declared.Tally.{Tally}
 use Rattle.tally.proofs.Stored.{stored-free}
 use Rattle.tally.proofs.Steps.{size-is}
+use Rattle.reading.proofs.Going.{refused-not, same-ledger, same-lines}
 
 -- a lot and a card as an opened ledger has them: good, cut to their rows, and each number fits its field
 pub record Carded (l : Lot) (c : Card) : Type 0 where
@@ -318,15 +319,6 @@ module _ (s : State) (fit : Fit s) where
   keeps (frame.End n) h = keeps-end n
 
 -- ---- a whole sheet: its ledger, and as many lines as were read
-refused-not : {A : Type 0} {g : Ledger} {m e n : ℕ} → refused e n ≡ accepted g m → A
-refused-not q = absurd (let z : _≡_ {A = ℕ} 0 1 = cc in omega arith)
-
-same-ledger : {g h : Ledger} {m n : ℕ} → accepted g m ≡ accepted h n → g ≡ h
-same-ledger q = cc
-
-same-lines : {g h : Ledger} {m n : ℕ} → accepted g m ≡ accepted h n → m ≡ n
-same-lines q = cc
-
 abbrev Yield : Ledger → ℕ → List Line → ℕ → Type 0
 Yield g m ls n = Writable g × (m ≡ n + length ls)
 
