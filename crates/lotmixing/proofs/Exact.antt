@@ -21,13 +21,13 @@ use Rattle.decimal.specs.Laying.{Laid}
 use Rattle.bench.specs.declared.Said.{Said}
 use Rattle.bench.specs.declared.Said.the-variants.{Usage}
 use Rattle.bench.specs.Printing.{allNumbers, saidToMixing, mixingLine, mixingPrints}
-use Rattle.lotmixing.specs.Listing.{Heard, takes, none, hears, saidToNumbers, saidToHeard, Answers}
+use Rattle.lotmixing.specs.Listing.{WordsRead, takes, none, reads, saidToNumbers, saidToRead, Answers}
 
 abbrev value : List ℕ → ℕ
 value w = kept (decimalValue w)
 
 -- ---- behind a word that is no number nothing is said
-stays-other : (h : Heard) (w : Word) → h .plain ≡ false → takes h w .plain ≡ false
+stays-other : (h : WordsRead) (w : Word) → h .plain ≡ false → takes h w .plain ≡ false
 unfolding takes
 stays-other h NotANumber e = refl
 stays-other h (Number x) e = by (decLe 62 (length (h .numbers)))
@@ -36,38 +36,38 @@ stays-other h (Number x) e = by (decLe 62 (length (h .numbers)))
     by (yes p) = rw (le-ltb (length (h .numbers)) 62 p) e
     by (no p) = rw (lt-ltb (length (h .numbers)) 62 (omega arith)) e
 
-hears-other : (h : Heard) (ws : List (List ℕ)) → h .plain ≡ false → saidToHeard (hears h ws) ≡ Usage
-unfolding hears
-hears-other h [] e = rw e
-hears-other h (w ∷ ws) e = hears-other (takes h (wordOf w)) ws (stays-other h (wordOf w) e)
+reads-other : (h : WordsRead) (ws : List (List ℕ)) → h .plain ≡ false → saidToRead (reads h ws) ≡ Usage
+unfolding reads
+reads-other h [] e = rw e
+reads-other h (w ∷ ws) e = reads-other (takes h (wordOf w)) ws (stays-other h (wordOf w) e)
 
 -- ---- the numbers kept are the first 62
 abbrev Says : List (List ℕ) → List ℕ → Type 0
-Says ws l = saidToHeard (hears (record { plain = true; numbers = l }) ws) ≡ pick (allNumbers ws) (saidToNumbers (take 62 (l ++ map value ws))) Usage
+Says ws l = saidToRead (reads (record { plain = true; numbers = l }) ws) ≡ pick (allNumbers ws) (saidToNumbers (take 62 (l ++ map value ws))) Usage
 
 -- one word more of each kind
-other-word : (h : Heard) (w : List ℕ) → isNumber w ≡ false → takes h (wordOf w) ≡ record { plain = false; numbers = h .numbers }
+other-word : (h : WordsRead) (w : List ℕ) → isNumber w ≡ false → takes h (wordOf w) ≡ record { plain = false; numbers = h .numbers }
 unfolding takes
 other-word h w e = rw e
 
-kept-word : (h : Heard) (w : List ℕ) → isNumber w ≡ true → length (h .numbers) < 62 → takes h (wordOf w) ≡ record { plain = h .plain; numbers = h .numbers ++ (value w ∷ []) }
+kept-word : (h : WordsRead) (w : List ℕ) → isNumber w ≡ true → length (h .numbers) < 62 → takes h (wordOf w) ≡ record { plain = h .plain; numbers = h .numbers ++ (value w ∷ []) }
 unfolding takes
 kept-word h w e p = rw (e, lt-ltb (length (h .numbers)) 62 p)
 
-full-word : (h : Heard) (w : List ℕ) → isNumber w ≡ true → 62 ≤ length (h .numbers) → takes h (wordOf w) ≡ h
+full-word : (h : WordsRead) (w : List ℕ) → isNumber w ≡ true → 62 ≤ length (h .numbers) → takes h (wordOf w) ≡ h
 unfolding takes
 full-word h w e p = rw (e, le-ltb (length (h .numbers)) 62 p)
 
-hears-numbers : (ws : List (List ℕ)) (l : List ℕ) → length l ≤ 62 → Says ws l
-unfolding hears allNumbers
-hears-numbers [] l h = rw (append-nil l, take-all 62 l h)
-hears-numbers (w ∷ ws) l h = by (isNumber w) refl (decLe 62 (length l)) (hears-numbers ws)
+reads-numbers : (ws : List (List ℕ)) (l : List ℕ) → length l ≤ 62 → Says ws l
+unfolding reads allNumbers
+reads-numbers [] l h = rw (append-nil l, take-all 62 l h)
+reads-numbers (w ∷ ws) l h = by (isNumber w) refl (decLe 62 (length l)) (reads-numbers ws)
   where
-    after : {k : Heard} → takes (record { plain = true; numbers = l }) (wordOf w) ≡ k → saidToHeard (hears (record { plain = true; numbers = l }) (w ∷ ws)) ≡ saidToHeard (hears k ws)
-    after e = ap (λ (k : Heard). saidToHeard (hears k ws)) e
+    after : {k : WordsRead} → takes (record { plain = true; numbers = l }) (wordOf w) ≡ k → saidToRead (reads (record { plain = true; numbers = l }) (w ∷ ws)) ≡ saidToRead (reads k ws)
+    after e = ap (λ (k : WordsRead). saidToRead (reads k ws)) e
 
     by : (b : Bool) → isNumber w ≡ b → Dec (62 ≤ length l) → ((m : List ℕ) → length m ≤ 62 → Says ws m) → Says (w ∷ ws) l
-    by false e d ih = after (other-word _ w e) ∙ hears-other _ ws refl ∙ rw e
+    by false e d ih = after (other-word _ w e) ∙ reads-other _ ws refl ∙ rw e
     by true e (yes p) ih =
         after (full-word _ w e p) ∙ ih l h
         ∙ rw (e, take-append-le 62 l (value w ∷ map value ws) p, take-append-le 62 l (map value ws) p)
@@ -93,15 +93,15 @@ values (w ∷ ws) = rw (values ws)
 exact-mixing : (t : List ℕ) (ws : List (List ℕ)) → mixingOf (take 61 (map value ws)) (value t) ≡ mixingOf (map decimalValue ws) (decimalValue t)
 exact-mixing t ws = first-61 (map value ws) (value t) ∙ rw (values ws) (mixing-kept (map decimalValue ws) (decimalValue t))
 
-exact : (ws : List (List ℕ)) → saidToHeard (hears none ws) ≡ saidToMixing ws
-unfolding hears saidToNumbers saidToMixing
+exact : (ws : List (List ℕ)) → saidToRead (reads none ws) ≡ saidToMixing ws
+unfolding reads saidToNumbers saidToMixing
 exact [] = refl
-exact (t ∷ ws) = hears-numbers (t ∷ ws) [] (omega arith) ∙ rw (exact-mixing t ws)
+exact (t ∷ ws) = reads-numbers (t ∷ ws) [] (omega arith) ∙ rw (exact-mixing t ws)
 
 -- so the line is right for the words
-pub answers : {h : Heard} {d e : List ℕ} {r : ℕ} → Laid (mixingLine (saidToHeard h)) d e r → Answers h d e r
+pub answers : {h : WordsRead} {d e : List ℕ} {r : ℕ} → Laid (mixingLine (saidToRead h)) d e r → Answers h d e r
 unfolding mixingPrints
 answers {d = d} {e = e} {r = r} l = record {
   kept = l;
-  right = λ words q. subst (λ (s : Said). Laid (mixingLine s) d e r) (ap saidToHeard q ∙ exact words) l;
+  right = λ words q. subst (λ (s : Said). Laid (mixingLine s) d e r) (ap saidToRead q ∙ exact words) l;
 }

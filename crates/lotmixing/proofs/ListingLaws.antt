@@ -21,7 +21,7 @@ use Rattle.bench.specs.declared.Said.{Said}
 use Rattle.bench.specs.declared.Said.the-variants.{Usage}
 use Rattle.bench.specs.Saying.{saidOf}
 use Rattle.lotmixing.specs.declared.Listed.{Listed}
-use Rattle.lotmixing.specs.Listing.{Heard, heard, takes, OneMore, none, hears, HeardOf, saidToNumbers, saidToHeard}
+use Rattle.lotmixing.specs.Listing.{WordsRead, wordsRead, takes, OneMore, none, reads, ReadOf, saidToNumbers, saidToRead}
 use Rattle.lotmixing.proofs.Listed as listed-type
 
 -- the type tells that there are 62 places
@@ -29,18 +29,18 @@ pub listed-sized : (l : Listed) (vs : List Val) → Is (row listed-type.the-type
 listed-sized l vs g = ap length (sym (map-id (l .values))) ∙ g .1 .1 .1 .1 .0 .1 .0 .1
 
 -- ---- one word more
-pub takes-other : {w : Word} (h : Heard) → w ≡ NotANumber → record { plain = false; numbers = h .numbers } ≡ takes h w
+pub takes-other : {w : Word} (h : WordsRead) → w ≡ NotANumber → record { plain = false; numbers = h .numbers } ≡ takes h w
 unfolding takes
 takes-other h e = rw e
 
-pub takes-full : {w : Word} {x : ℕ} (l : Listed) → length (l .values) ≡ 62 → w ≡ Number x → 62 ≤ l .count → heard l ≡ takes (heard l) w
+pub takes-full : {w : Word} {x : ℕ} (l : Listed) → length (l .values) ≡ 62 → w ≡ Number x → 62 ≤ l .count → wordsRead l ≡ takes (wordsRead l) w
 unfolding takes
 takes-full l n e h =
     let all : take (l .count) (l .values) ≡ l .values = take-all (l .count) (l .values) (omega arith) in
     rw (e, le-ltb (length (take (l .count) (l .values))) 62 (rw all (omega arith)))
 
 pub takes-more : {w : Word} {x : ℕ} (l : Listed) → length (l .values) ≡ 62 → w ≡ Number x → l .count < 62
-    → record { plain = l .plain; numbers = take (l .count + 1) (set (l .values) (l .count) x) } ≡ takes (heard l) w
+    → record { plain = l .plain; numbers = take (l .count + 1) (set (l .values) (l .count) x) } ≡ takes (wordsRead l) w
 unfolding takes
 takes-more {x = x} l n e h =
     let few : length (take (l .count) (l .values)) ≡ l .count = length-take-le (l .count) (l .values) (omega arith) in
@@ -48,27 +48,27 @@ takes-more {x = x} l n e h =
     rw (e, lt-ltb (length (take (l .count) (l .values))) 62 (omega arith), more)
 
 -- ---- words one after the other
-hears-more : (h : Heard) (ws : List (List ℕ)) (w : List ℕ) → hears h (ws ++ (w ∷ [])) ≡ takes (hears h ws) (wordOf w)
-unfolding hears
-hears-more h [] w = refl
-hears-more h (v ∷ ws) w = hears-more (takes h (wordOf v)) ws w
+reads-more : (h : WordsRead) (ws : List (List ℕ)) (w : List ℕ) → reads h (ws ++ (w ∷ [])) ≡ takes (reads h ws) (wordOf w)
+unfolding reads
+reads-more h [] w = refl
+reads-more h (v ∷ ws) w = reads-more (takes h (wordOf v)) ws w
 
-pub heard-none : {h : Heard} → h ≡ none → HeardOf 0 h
-unfolding hears
-heard-none e = record { words = []; count = refl; right = e }
+pub wordsRead-none : {h : WordsRead} → h ≡ none → ReadOf 0 h
+unfolding reads
+wordsRead-none e = record { words = []; count = refl; right = e }
 
-pub heard-more : {n m : ℕ} {h k : Heard} → HeardOf n h → OneMore h k → m ≡ n + 1 → HeardOf m k
-heard-more a b e = record {
+pub wordsRead-more : {n m : ℕ} {h k : WordsRead} → ReadOf n h → OneMore h k → m ≡ n + 1 → ReadOf m k
+wordsRead-more a b e = record {
   words = a .words ++ (b .word ∷ []);
   count = simp length-append (omega (arith, a .count));
-  right = b .right ∙ rw (hears-more none (a .words) (b .word), a .right);
+  right = b .right ∙ rw (reads-more none (a .words) (b .word), a .right);
 }
 
-pub heard-all : {n m : ℕ} {h : Heard} → HeardOf n h → n ≡ m → HeardOf m h
-heard-all a e = record { words = a .words; count = a .count ∙ e; right = a .right }
+pub wordsRead-all : {n m : ℕ} {h : WordsRead} → ReadOf n h → n ≡ m → ReadOf m h
+wordsRead-all a e = record { words = a .words; count = a .count ∙ e; right = a .right }
 
 -- ---- what is said
-pub said-other : (l : Listed) → l .plain ≡ false → Usage ≡ saidToHeard (heard l)
+pub said-other : (l : Listed) → l .plain ≡ false → Usage ≡ saidToRead (wordsRead l)
 said-other l p = rw p
 
 -- no place past the last counts
@@ -80,11 +80,11 @@ least-whole xs n m k h e = by (decLe n k)
     by (no p) = take-all m xs (omega arith) ∙ sym (take-all n xs (omega arith))
 
 module _ (l : Listed) (n : ℕ) (sized : length (l .values) ≡ 62) (plain : l .plain ≡ true) (e : n ≡ min (l .count) 62) where
-  pub said-none : n ≡ 0 → Usage ≡ saidToHeard (heard l)
+  pub said-none : n ≡ 0 → Usage ≡ saidToRead (wordsRead l)
   unfolding saidToNumbers
   said-none z = rw (plain, ← least-whole (l .values) (l .count) n 62 sized e, z)
 
-  pub said-list : {answer : Answered} {said : Said} → 1 ≤ n → answer ≡ mixingOf (take (n - 1) (drop 1 (l .values))) (getD (l .values) 0 0) → said ≡ saidOf answer → said ≡ saidToHeard (heard l)
+  pub said-list : {answer : Answered} {said : Said} → 1 ≤ n → answer ≡ mixingOf (take (n - 1) (drop 1 (l .values))) (getD (l .values) 0 0) → said ≡ saidOf answer → said ≡ saidToRead (wordsRead l)
   unfolding saidToNumbers
   said-list h f g = rw (plain, ← least-whole (l .values) (l .count) n 62 sized e) (by (l .values) n h sized (g ∙ ap saidOf f))
     where

@@ -18,47 +18,47 @@ use Rattle.bench.specs.Printing.{mixingLine, mixingPrints}
 use Rattle.lotmixing.specs.declared.Listed.{Listed}
 
 -- the words so far: whether each is a number, and their numbers
-pub record Heard : Type 0 where
+pub record WordsRead : Type 0 where
   pub plain : Bool
   pub numbers : List ℕ
 
-abbrev pub heard : Listed → Heard
-heard l = record { plain = l .plain; numbers = take (l .count) (l .values) }
+abbrev pub wordsRead : Listed → WordsRead
+wordsRead l = record { plain = l .plain; numbers = take (l .count) (l .values) }
 
 -- One word more. 62 numbers are kept, the tolerated R and one result more than may be mixed: every longer list is answered like one
 -- of 62 (shown in proofs/Exact.antt).
-unfoldable pub takes : Heard → Word → Heard
+unfoldable pub takes : WordsRead → Word → WordsRead
 takes h (Number x) = pick (ltb (length (h .numbers)) 62) (record { plain = h .plain; numbers = h .numbers ++ (x ∷ []) }) h
 takes h NotANumber = record { plain = false; numbers = h .numbers }
 
-abbrev pub none : Heard
+abbrev pub none : WordsRead
 none = record { plain = true; numbers = [] }
 
 -- k is h with one word more, whichever it was
-pub record OneMore (h k : Heard) : Type 0 where
+pub record OneMore (h k : WordsRead) : Type 0 where
   pub word : List ℕ
   pub right : k ≡ takes h (wordOf word)
 
--- words, behind those of which h is heard
-unfoldable pub hears : Heard → List (List ℕ) → Heard
-hears h [] = h
-hears h (w ∷ ws) = hears (takes h (wordOf w)) ws
+-- words, behind those of which h is read
+unfoldable pub reads : WordsRead → List (List ℕ) → WordsRead
+reads h [] = h
+reads h (w ∷ ws) = reads (takes h (wordOf w)) ws
 
--- h is what is heard of so many words, whichever they were
-pub record HeardOf (many : ℕ) (h : Heard) : Type 0 where
+-- h is what is read of so many words, whichever they were
+pub record ReadOf (many : ℕ) (h : WordsRead) : Type 0 where
   pub words : List (List ℕ)
   pub count : length words ≡ many
-  pub right : h ≡ hears none words
+  pub right : h ≡ reads none words
 
 -- the first number is the tolerated R, the others are the results
 unfoldable pub saidToNumbers : List ℕ → Said
 saidToNumbers [] = Usage
 saidToNumbers (tolerated ∷ results) = saidOf (mixingOf results tolerated)
 
-abbrev pub saidToHeard : Heard → Said
-saidToHeard h = pick (h .plain) (saidToNumbers (h .numbers)) Usage
+abbrev pub saidToRead : WordsRead → Said
+saidToRead h = pick (h .plain) (saidToNumbers (h .numbers)) Usage
 
--- The line laid down by what is heard is the line to the words that were heard, however many they were and however large their numbers.
-pub record Answers (h : Heard) (d e : List ℕ) (r : ℕ) : Type 0 where
-  pub kept : Laid (mixingLine (saidToHeard h)) d e r
-  pub right : (words : List (List ℕ)) → h ≡ hears none words → Laid (mixingPrints words) d e r
+-- The line laid down by what is read is the line to the words that were read, however many they were and however large their numbers.
+pub record Answers (h : WordsRead) (d e : List ℕ) (r : ℕ) : Type 0 where
+  pub kept : Laid (mixingLine (saidToRead h)) d e r
+  pub right : (words : List (List ℕ)) → h ≡ reads none words → Laid (mixingPrints words) d e r

@@ -5,7 +5,7 @@ ghost use Rattle.rules.specs.Numbers.{mixingAnswer};
 ghost use Rattle.words.specs.Words.{wordOf};
 ghost use Rattle.io.specs.Counts.{Counts};
 ghost use Rattle.bench.specs.Saying.{saidOf};
-ghost use Rattle.lotmixing.specs.Listing.{heard, takes, OneMore, none, HeardOf, saidToHeard, Answers};
+ghost use Rattle.lotmixing.specs.Listing.{wordsRead, takes, OneMore, none, ReadOf, saidToRead, Answers};
 use bench::LINE;
 use bench::Said;
 use rules::Mixing;
@@ -24,7 +24,7 @@ struct Listed {
 
 // No words.
 fn empty() -> Listed
-    ensures { λ r. ⌜ heard r ≡ none ⌝ }
+    ensures { λ r. ⌜ wordsRead r ≡ none ⌝ }
 {
     Listed {
         plain: true,
@@ -35,7 +35,7 @@ fn empty() -> Listed
 
 // One word more.
 fn with_word(listed: Listed, word: &[u8]) -> Listed
-    ensures { λ r. ⌜ heard r ≡ takes (heard listed) (wordOf (now (word .entry))) ⌝ }
+    ensures { λ r. ⌜ wordsRead r ≡ takes (wordsRead listed) (wordOf (now (word .entry))) ⌝ }
 {
     let count = listed.count;
     let mut values = listed.values;
@@ -71,7 +71,7 @@ fn said_of(mixing: Mixing) -> Said
 
 // What is said to the words.
 fn said_to(listed: Listed) -> Said
-    ensures { λ r. ⌜ r ≡ saidToHeard (heard listed) ⌝ }
+    ensures { λ r. ⌜ r ≡ saidToRead (wordsRead listed) ⌝ }
 {
     if !listed.plain {
         return Said::Usage;
@@ -87,7 +87,7 @@ fn said_to(listed: Listed) -> Said
 
 // The line to the words, and its length.
 fn answer(listed: Listed, line: &mut [u8; LINE]) -> usize
-    ensures { λ r. ⌜ Answers (heard listed) (now (line .entry)) (now (line .exit)) r ⌝ }
+    ensures { λ r. ⌜ Answers (wordsRead listed) (now (line .entry)) (now (line .exit)) r ⌝ }
     ensures { λ r. ⌜ Counts r (now (line .exit)) ⌝ }
 {
     bench::verdict_line(
@@ -101,7 +101,7 @@ fn answer(listed: Listed, line: &mut [u8; LINE]) -> usize
 
 // The words so far and argument i.
 fn with_argument(listed: Listed, i: usize) -> Listed
-    ensures { λ r. ⌜ OneMore (heard listed) (heard r) ⌝ }
+    ensures { λ r. ⌜ OneMore (wordsRead listed) (wordsRead r) ⌝ }
 {
     let mut word = bench::word_buffer();
     let n = os::arg(i, &mut word);
@@ -110,7 +110,7 @@ fn with_argument(listed: Listed, i: usize) -> Listed
 
 // All arguments, of which there are `arguments` with the program's own name.
 fn read_words(arguments: usize) -> Listed
-    ensures { λ r. ⌜ HeardOf (arguments - 1) (heard r) ⌝ }
+    ensures { λ r. ⌜ ReadOf (arguments - 1) (wordsRead r) ⌝ }
 {
     let mut all = empty();
     let mut i = 1;
