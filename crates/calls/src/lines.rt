@@ -1,12 +1,10 @@
 // A line of a text: a word, and the numbers behind it, with single blanks between them.
-ghost use mathlib.Core.Bool.{true};
-ghost use mathlib.Core.Path.{_≡_};
-ghost use Prim.Native.Nat.{_+_, _≤_, _<_};
+ghost use Prim.Native.Nat.{_≤_, _<_};
 ghost use lib.ListN.{length};
-use words::Word;
+use decimal_words::Word;
 
 // The most numbers of a line that are kept.
-pub const MOST: usize = 64;
+pub const MOST_NUMBERS: usize = 64;
 
 // Where the line's first word ends, how many numbers stand behind it, and where the next line starts.
 pub struct Line {
@@ -17,7 +15,7 @@ pub struct Line {
 
 // The value of a word; what is no number counts as the largest.
 fn value(word: &[u8]) -> u32 {
-    let w = words::number(word);
+    let w = decimal_words::number(word);
     match w {
         Word::Number(n) => n,
         Word::NotANumber => u32::MAX,
@@ -39,33 +37,30 @@ fn word_end(text: &[u8], at: usize) -> usize
     i
 }
 
-// Whether the line goes on behind its word that ends at `end`.
-fn goes_on(text: &[u8], end: usize) -> bool
-    ensures { λ r. ⌜ (r ≡ true → end < length (now (text .entry))) ⌝ }
-{
-    if end < text.len() {
-        return text[end] != b'\n';
-    }
-    false
-}
-
 // Puts a number at its place, where there is one.
-fn keep(numbers: &mut [u32; MOST], at: usize, n: u32) {
-    if at < MOST {
+fn keep(numbers: &mut [u32; MOST_NUMBERS], at: usize, n: u32) {
+    if at < MOST_NUMBERS {
         numbers[at] = n;
     }
 }
 
 // The line that starts at `at`; its numbers go to the places from 0 on.
-pub fn line_at(text: &[u8], at: usize, numbers: &mut [u32; MOST]) -> Line
+pub fn line_at(text: &[u8], at: usize, numbers: &mut [u32; MOST_NUMBERS]) -> Line
     requires { ⌜ at < length (now text) ⌝ }
     ensures { λ r. ⌜ (at ≤ r .end) × (r .end < r .next) × (r .end ≤ length (now (text .entry))) ⌝ }
 {
     let first = word_end(text, at);
     let mut end = first;
     let mut count = 0;
-    while goes_on(text, end) {
+    while end < text.len() {
         let next = end + 1;
+        if text[end] == b'\n' {
+            return Line {
+                end: first,
+                count,
+                next,
+            };
+        }
         let stop = word_end(text, next);
         keep(numbers, count, value(&text[next..stop]));
         count += 1;

@@ -9,13 +9,13 @@ mod lines;
 mod print;
 mod tallies;
 
-use lines::MOST;
+use lines::MOST_NUMBERS;
 use rules::Refusal;
 use tally::Outcome;
 use tally::Tally;
 
 // A call that changes a tally.
-fn changed(name: &[u8], t: Tally, other: Tally, numbers: &[u32; MOST]) -> Outcome {
+fn changed(name: &[u8], t: Tally, other: Tally, numbers: &[u32; MOST_NUMBERS]) -> Outcome {
     if check::same(name, b"open") {
         return tallies::open(t, numbers);
     }
@@ -35,7 +35,7 @@ fn changed(name: &[u8], t: Tally, other: Tally, numbers: &[u32; MOST]) -> Outcom
 }
 
 // A call beside the tally is made, and any other is not.
-fn beside_made(name: &[u8], numbers: &[u32; MOST], count: usize) -> bool {
+fn beside_made(name: &[u8], numbers: &[u32; MOST_NUMBERS], count: usize) -> bool {
     if check::same(name, b"sampling") {
         beside::sampling(numbers);
         return true;
@@ -69,24 +69,29 @@ fn reading_made(name: &[u8], t: Tally) -> bool {
 }
 
 // The tally after a call on it.
-fn after(name: &[u8], t: Tally, other: Tally, numbers: &[u32; MOST]) -> Tally {
+fn after(name: &[u8], t: Tally, other: Tally, numbers: &[u32; MOST_NUMBERS]) -> Tally {
     if reading_made(name, t) {
         return t;
     }
     let outcome = changed(name, t, other, numbers);
     let refusal = outcome.refusal;
     let next = outcome.tally;
-    print::answered(refusal.number(), next.held);
+    print::held(refusal.number(), next.held);
     next
 }
 
-struct Two {
-    pub one: Tally,
-    pub two: Tally,
+struct BothTallies {
+    one: Tally,
+    two: Tally,
 }
 
 // Both tallies after a line's call.
-fn step(name: &[u8], both: Two, numbers: &[u32; MOST], count: usize) -> Two {
+fn step(
+    name: &[u8],
+    both: BothTallies,
+    numbers: &[u32; MOST_NUMBERS],
+    count: usize,
+) -> BothTallies {
     if beside_made(name, numbers, count) {
         return both;
     }
@@ -94,20 +99,20 @@ fn step(name: &[u8], both: Two, numbers: &[u32; MOST], count: usize) -> Two {
     let two = both.two;
     if numbers[0] == 2 {
         let next = after(name, two, one, numbers);
-        return Two { one, two: next };
+        return BothTallies { one, two: next };
     }
     let next = after(name, one, two, numbers);
-    Two { one: next, two }
+    BothTallies { one: next, two }
 }
 
 fn run(text: &[u8]) {
-    let mut both = Two {
+    let mut both = BothTallies {
         one: tally::fresh(),
         two: tally::fresh(),
     };
     let mut at = 0;
     while at < text.len() {
-        let mut numbers = [0u32; MOST];
+        let mut numbers = [0u32; MOST_NUMBERS];
         let line = lines::line_at(text, at, &mut numbers);
         let end = line.end;
         both = step(&text[at..end], both, &numbers, line.count);

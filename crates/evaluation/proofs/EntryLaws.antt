@@ -1,88 +1,45 @@
 -- What is counted over all containers of the lot is counted over the list of results. Assumes nothing.
-use Prim.Native.Nat.{ℕ, zero, suc, _+_, _≤_, _<_, min, max}
+use Prim.Native.Nat.{ℕ, _+_, min, max}
 use native.Mathlib.Omega.{arith}
-use native.Mathlib.Decide.{ℕ-discrete}
-use mathlib.Core.Path.{_≡_, refl, sym, ap, ap₂, _∙_}
-use mathlib.Core.List.{List, [], _∷_}
+use mathlib.Core.Path.{_≡_, refl, sym, ap, _∙_}
+use mathlib.Core.List.{List, [], _∷_, _++_}
 use Rattle.rules.specs.Limits.{highestX, widest}
-use Rattle.rules.specs.Places.{Place, Places, free, holds, none, put, total, one, value, square, valueOrWidest, smallest, largest}
+use Rattle.rules.specs.Contents.{Content, Contents, holds, value, square}
 use Rattle.rules.specs.Figures.{figures}
-use Rattle.rules.specs.Ledger.{Ledger, containers, held}
-use Rattle.rules.proofs.PlaceLaws.{put-same, put-other}
-use Rattle.evaluation.specs.Entries.{Entry, entered, gathered, countOf, figuresOver, Good, nothing, more, Holds}
+use Rattle.rules.specs.Ledger.{Ledger, containers}
+use Rattle.rules.specs.declared.Lot.{Lot}
+use Rattle.rules.specs.declared.Card.{Card}
+use Rattle.rules.proofs.ContentLaws.{free-is}
+use Rattle.rules.proofs.CountLaws.{Counted, total-counted, largest-counted, smallest-counted}
+use Rattle.rules.proofs.LedgerLaws.{enter-tells}
+use Rattle.reading_theorems.specs.Spelling.{Entry, Made, opens, enters}
+use Rattle.reading_theorems.proofs.Spelt.{made-held}
+use Rattle.evaluation.specs.Entries.{gathered, figuresOver}
 
--- A count t that goes from container to container by op, from start on. A free place changes nothing, and two results may be
--- taken in either order.
-module _
-    (op : ℕ → ℕ → ℕ)
-    (start : ℕ)
-    (w : Place → ℕ)
-    (t : ℕ → Places → ℕ)
-    (first : (f : Places) → t 0 f ≡ start)
-    (next : (n : ℕ) (f : Places) → t (suc n) f ≡ op (t n f) (w (f (suc n))))
-    (unchanged : op start (w free) ≡ start)
-    (passed : (a x : ℕ) → x ≤ highestX → op (op a (w free)) (w (holds x)) ≡ op a (w (holds x)))
-    (either : (a b c : ℕ) → op (op a b) c ≡ op (op a c) b)
-  where
-    counted-beyond : (n : ℕ) (f : Places) (k : ℕ) (p : Place) → n < k → t n (put f k p) ≡ t n f
-    counted-beyond zero f k p h = first (put f k p) ∙ sym (first f)
-    counted-beyond (suc n) f k p h =
-        next n (put f k p)
-        ∙ (rw (counted-beyond n f k p (omega arith), put-other f k p (suc n) (λ e. omega arith)) (sym (next n f)))
+gathered-last : (op : ℕ → ℕ → ℕ) (w : Content → ℕ) (n : ℕ) (es : List Entry) (e : Entry) → gathered op w n (es ++ (e ∷ [])) ≡ op (gathered op w n es) (w (holds (e .x)))
+unfolding gathered
+gathered-last op w n [] e = refl
+gathered-last op w n (d ∷ es) e = gathered-last op w (op n (w (holds (d .x)))) es e
 
-    counted-put : (n : ℕ) (f : Places) (k x : ℕ) → 1 ≤ k → k ≤ n → x ≤ highestX → f k ≡ free → t n (put f k (holds x)) ≡ op (t n f) (w (holds x))
-    counted-put zero f k x a b c e = absurd (omega arith)
-    counted-put (suc n) f k x a b c e = go (ℕ-discrete k (suc n)) (counted-put n f k x a)
-      where
-        go : Dec (k ≡ suc n) → (k ≤ n → x ≤ highestX → f k ≡ free → t n (put f k (holds x)) ≡ op (t n f) (w (holds x))) → t (suc n) (put f k (holds x)) ≡ op (t (suc n) f) (w (holds x))
-        go (yes q) r =
-            next n (put f k (holds x))
-            ∙ (ap₂ op (counted-beyond n f k (holds x) (omega arith)) (ap w (ap (put f k (holds x)) (sym q) ∙ put-same f k (holds x)))
-            ∙ (sym (passed (t n f) x c) ∙ cc (next n f, ap f q, e)))
-        go (no h) r =
-            next n (put f k (holds x))
-            ∙ (ap₂ op (r (omega arith) c e) (ap w (put-other f k (holds x) (suc n) (λ q. h (sym q))))
-            ∙ (either (t n f) (w (holds x)) (w (f (suc n))) ∙ ap (λ (m : ℕ). op m (w (holds x))) (sym (next n f))))
+-- of a ledger that these results make
+counted : {l : Lot} {c : Card} {es : List Entry} {g : Ledger} (op : ℕ → ℕ → ℕ) (start : ℕ) (w : Content → ℕ) (t : ℕ → Contents → ℕ)
+    → Counted op start w t → Made l c es g → t (containers g) (g .contents) ≡ gathered op w start es
+counted {l} op start w t s (opens q) = rw q (unfold gathered in s .nothing (l .containers))
+counted op start w t s (enters {es = ds} {g = h} k x m q) =
+    let n = enter-tells h k x q in
+    let e : Entry = record { container = k; x = x } in
+    rw q
+    (s .more (containers h) (h .contents) k x (n .above) (n .inside) (omega (arith, n .low)) (free-is (h .contents k) (n .clear))
+    ∙ ap (λ (i : ℕ). op i (w (holds x))) (counted op start w t s m)
+    ∙ sym (gathered-last op w start ds e))
 
-    counted-none : (n : ℕ) → t n none ≡ start
-    counted-none zero = first none
-    counted-none (suc n) = next n none ∙ (rw (counted-none n) unchanged)
-
-    counted : (n : ℕ) (es : List Entry) → Good n es → t n (entered es) ≡ gathered op start w es
-    unfolding entered gathered
-    counted n [] nothing = counted-none n
-    counted n (e ∷ es) (more a b c d g) = counted-put n (entered es) (e .container) (e .x) a b c d ∙ ap (λ (m : ℕ). op m (w (holds (e .x)))) (counted n es g)
-
--- ---- sums, the largest and the smallest
-pub total-gathered : (w : Place → ℕ) (n : ℕ) (es : List Entry) → w free ≡ 0 → Good n es → total w n (entered es) ≡ gathered _+_ 0 w es
-unfolding total
-total-gathered w n es e g =
-    counted _+_ 0 w (total w) (λ f. refl) (λ m f. refl) (omega arith) (λ a x b. omega arith) (λ a b c. omega arith) n es g
-
-pub largest-gathered : (n : ℕ) (es : List Entry) → Good n es → largest n (entered es) ≡ gathered max 0 value es
-unfolding largest
-largest-gathered n es g =
-    counted max 0 value largest (λ f. refl) (λ m f. refl) (omega arith) (λ a x b. omega arith) (λ a b c. omega arith) n es g
-
-pub smallest-gathered : (n : ℕ) (es : List Entry) → Good n es → smallest n (entered es) ≡ gathered min widest valueOrWidest es
-unfolding smallest
-smallest-gathered n es g =
-    counted min widest valueOrWidest smallest (λ f. refl) (λ m f. refl) (omega arith) (λ a x b. omega arith) (λ a b c. omega arith) n es g
-
--- ---- of a ledger that holds these results
-pub held-is : (g : Ledger) (es : List Entry) → Holds g es → held g ≡ countOf es
-held-is g es h = rw (h .same) (total-gathered one (containers g) es refl (h .good))
-
-pub figures-are : (g : Ledger) (es : List Entry) → Holds g es → figures g ≡ figuresOver es
+pub figures-are : (l : Lot) (c : Card) (es : List Entry) (g : Ledger) → Made l c es g → figures g ≡ figuresOver es
 unfolding figuresOver
-figures-are g es h =
-    rw
-    (h .same)
-    (λ i.
-    record {
-      count = total-gathered one (containers g) es refl (h .good) i;
-      sum = total-gathered value (containers g) es refl (h .good) i;
-      squares = total-gathered square (containers g) es refl (h .good) i;
-      smallest = smallest-gathered (containers g) es (h .good) i;
-      largest = largest-gathered (containers g) es (h .good) i;
-    })
+figures-are l c es g made =
+    λ i. record {
+      count = made-held made i;
+      sum = counted _ _ _ _ (total-counted value refl) made i;
+      squares = counted _ _ _ _ (total-counted square refl) made i;
+      smallest = counted _ _ _ _ smallest-counted made i;
+      largest = counted _ _ _ _ largest-counted made i;
+    }

@@ -1,44 +1,23 @@
--- Results as a list, the newest first, and the map that they make.
-use Prim.Native.Nat.{ℕ, _+_, _≤_, min, max}
-use mathlib.Core.Path.{_≡_}
+-- The figures of a report, counted over the results of a sheet in their order.
+use Prim.Native.Nat.{ℕ, _+_, min, max}
 use mathlib.Core.List.{List, [], _∷_}
-use Rattle.rules.specs.Limits.{highestX, widest}
-use Rattle.rules.specs.Places.{Place, Places, free, holds, none, put, one, value, square, valueOrWidest}
-use Rattle.rules.specs.Figures.{Figures}
-use Rattle.rules.specs.Ledger.{Ledger, containers}
+use lib.ListN.{length}
+use Rattle.rules.specs.Limits.{widest}
+use Rattle.rules.specs.Contents.{Content, holds, value, square, valueOrWidest}
+use Rattle.rules.specs.declared.Figures.{Figures}
+use Rattle.reading_theorems.specs.Spelling.{Entry}
 
-pub record Entry : Type 0 where
-  pub container : ℕ
-  pub x : ℕ
-
-unfoldable pub entered : List Entry → Places
-entered [] = none
-entered (e ∷ es) = put (entered es) (e .container) (holds (e .x))
-
--- the weights w of the results, put together by op
-unfoldable pub gathered : (ℕ → ℕ → ℕ) → ℕ → (Place → ℕ) → List Entry → ℕ
-gathered op start w [] = start
-gathered op start w (e ∷ es) = op (gathered op start w es) (w (holds (e .x)))
-
-abbrev pub countOf : List Entry → ℕ
-countOf es = gathered _+_ 0 one es
+-- the weights w of the results, put together by op, behind those that come to n
+unfoldable pub gathered : (ℕ → ℕ → ℕ) → (Content → ℕ) → ℕ → List Entry → ℕ
+gathered op w n [] = n
+gathered op w n (e ∷ es) = gathered op w (op n (w (holds (e .x)))) es
 
 unfoldable pub figuresOver : List Entry → Figures
 figuresOver es =
     record {
-      count = countOf es;
-      sum = gathered _+_ 0 value es;
-      squares = gathered _+_ 0 square es;
-      smallest = gathered min widest valueOrWidest es;
-      largest = gathered max 0 value es;
+      count = length es;
+      sum = gathered _+_ value 0 es;
+      squares = gathered _+_ square 0 es;
+      smallest = gathered min valueOrWidest widest es;
+      largest = gathered max value 0 es;
     }
-
--- each in a container of the lot that holds nothing yet
-pub data Good (n : ℕ) : List Entry → Type 0 where
-  nothing : Good n []
-  more : {e : Entry} {es : List Entry} → 1 ≤ e .container → e .container ≤ n → e .x ≤ highestX → entered es (e .container) ≡ free → Good n es → Good n (e ∷ es)
-
--- the ledger holds these results
-pub record Holds (g : Ledger) (es : List Entry) : Type 0 where
-  pub same : g .places ≡ entered es
-  pub good : Good (containers g) es

@@ -11,7 +11,7 @@ pub struct Tried {
 }
 
 // Prints a group's line.
-fn told(name: &[u8], t: Tried) {
+fn print_group(name: &[u8], t: Tried) {
     io::write_all(STDOUT_FILENO, name);
     io::print_decimal(STDOUT_FILENO, t.right as u64);
     io::write_all(STDOUT_FILENO, b" of ");
@@ -28,11 +28,11 @@ fn together(a: Tried, b: Tried) -> Tried {
 
 fn main() {
     let handbook = sheets::group(b'h', 4);
-    told(b"sheets of the handbook (002, 10.2): ", handbook);
+    print_group(b"sheets of the handbook (002, 10.2): ", handbook);
     let misleading = sheets::group(b'm', 6);
-    told(b"sheets that mislead: ", misleading);
+    print_group(b"sheets that mislead: ", misleading);
     let vectors = sheets::group(b'v', 220);
-    told(b"sheets of the vectors: ", vectors);
+    print_group(b"sheets of the vectors: ", vectors);
     let all = together(together(handbook, misleading), vectors);
-    told(b"all: ", all);
+    print_group(b"all: ", all);
 }

@@ -1,7 +1,13 @@
 // Sheets from files, each held against what lotreport must print for it.
 use crate::Tried;
 use crate::files;
-use rules::Printed;
+use rules::checks;
+
+// The bytes that lotreport reads.
+const READ: usize = 4096;
+
+// The sheet of the vectors that goes on far behind its first fault. Its file ends with the fault; the rest is the buffer's zeros.
+const LONG_SHEET: usize = 197;
 
 fn digit(n: usize) -> u8 {
     (48 + n % 10) as u8
@@ -39,30 +45,39 @@ fn text_name(group: u8, n: usize) -> [u8; 8] {
 // Whether the first n bytes of a buffer are a text.
 fn begins(buf: &[u8], n: usize, text: &[u8]) -> bool {
     if n <= buf.len() {
-        return check::same(&buf[..n], text);
+        return check::same(&buf[0..n], text);
     }
     false
 }
 
 // Whether a sheet is judged as a text says.
 fn judged_as(sheet: &[u8], expected: &[u8], printed: &mut [u8]) -> bool {
-    let answer = judge::judge(sheet, printed);
-    match answer {
-        Printed::Length(n) => begins(printed, n, expected),
-        Printed::BufferShort => false,
+    let text = judge::judge(sheet, printed).text_size();
+    if text.number != 0 {
+        return false;
     }
+    begins(printed, text.size, expected)
 }
 
-// Whether sheet n of a group is judged as its text says. As lotreport does, it reads 4,096 bytes and no more.
+// The same, and of the bytes that lotreport would read of it.
+fn decided_as(sheet: &[u8], expected: &[u8], printed: &mut [u8]) -> bool {
+    let read = checks::least(sheet.len(), READ);
+    judged_as(sheet, expected, printed) & judged_as(&sheet[0..read], expected, printed)
+}
+
+// Whether sheet n of a group is judged as its text says.
 fn agrees(group: u8, n: usize) -> bool {
-    let mut sheet = io::buffer();
+    let mut sheet = io::large_buffer();
     let mut expected = io::buffer();
     let mut printed = io::buffer();
     let name = sheet_name(group, n);
     let s = files::read(&name, &mut sheet);
     let text = text_name(group, n);
     let e = files::read(&text, &mut expected);
-    judged_as(&sheet[..s], &expected[..e], &mut printed)
+    if (group == b'v') & (n == LONG_SHEET) {
+        return decided_as(&sheet, &expected[..e], &mut printed);
+    }
+    decided_as(&sheet[..s], &expected[..e], &mut printed)
 }
 
 pub fn group(name: u8, count: usize) -> Tried {

@@ -1,2 +1,2 @@
-pub mod WalkedLaws
+pub mod ReportableLaws
 pub mod ValueLaws

@@ -1,2 +1,2 @@
-pub mod Walked
-pub mod Findings
+pub mod Values
+pub mod Reportable

@@ -1,62 +1,34 @@
 // The findings of a report: what its five lines say.
 ghost use mathlib.Core.Path.{_≡_};
 ghost use Prim.Native.Nat.{_-_, _≤_};
-ghost use Rattle.rules.specs.Limits.{mostHeld};
-ghost use Rattle.rules.specs.Figures.{meanOf};
+ghost use Rattle.rules.specs.Figures.{figuresOf, meanOf, together as rule·together};
+ghost use Rattle.rules.specs.Report.{noValue, findingsOf};
 ghost use Rattle.decimal.specs.Dividing.{Workable};
-ghost use Rattle.findings.specs.Walked.{asFigures, asFraction, Usual};
-ghost use Rattle.findings.specs.Findings.{limitOf, verdictOf, together as rule·together, noValue, IsH, IsR, IsFound, Finds};
-use figures::Figures;
+ghost use Rattle.findings.specs.Values.{hAgainst, rAgainst};
+ghost use Rattle.findings.specs.Reportable.{inOrder, foundOf, IsReportable};
 use rules::Attribute;
 use rules::Card;
+use rules::Figures;
+use rules::Findings;
+use rules::Fraction;
+use rules::Limit;
 use rules::MOST_HELD;
-use values::Fraction;
+use rules::Value;
+use rules::Verdict;
 
 mod figures;
 mod values;
 
-// What a value is set against.
-pub enum Limit {
-    Absent,
-    At(u32),
-}
-
-// Undecided: without a limit.
-pub enum Verdict {
-    Kept,
-    Over,
-    Undecided,
-}
-
-// H or R as its line has it, with its decimal places.
-pub struct Value {
-    pub places: u8,
-    pub value: u64,
-    pub limit: Limit,
-    pub verdict: Verdict,
-}
-
-// N, the mean with its decimal places, H and R, which a void lot has not, and the lot's verdict.
-pub struct Findings {
-    pub count: u16,
-    pub places: u8,
-    pub mean: u64,
-    pub void: bool,
-    pub h: Value,
-    pub r: Value,
-    pub lot: Verdict,
-}
-
-// Unusual: too few results, or what no open and no enter accept.
+// NotReportable: too few results, or what no open and no enter accept.
 pub enum Found {
-    Usual(Findings),
-    Unusual,
+    Reportable(Findings),
+    NotReportable,
 }
 
 // The mean in units of its last printed place, half up.
 fn mean(a: Attribute, f: Figures) -> u64
     requires { ⌜ 1 ≤ f .count ⌝ }
-    ensures { λ r. ⌜ r ≡ meanOf a (asFigures f) ⌝ }
+    ensures { λ r. ⌜ r ≡ meanOf a f ⌝ }
 {
     let d = decimal::divide(a.mean_scale(f.count), f.sum as u64, f.count as u64);
     d.nearest
@@ -72,7 +44,7 @@ fn less(a: u64, b: u64) -> u64
 // H from V/W, G and the critical value.
 fn h_value(q: Fraction, offset: u16, critical: Limit) -> Value
     requires { ⌜ Workable 100 (q .over) (q .under) ⌝ }
-    ensures { λ r. ⌜ IsH (asFraction q) offset (limitOf critical) r ⌝ }
+    ensures { λ r. ⌜ r ≡ hAgainst q offset critical ⌝ }
 {
     let d = decimal::divide(100, q.over, q.under);
     Value {
@@ -86,7 +58,7 @@ fn h_value(q: Fraction, offset: u16, critical: Limit) -> Value
 // R with the tolerated range.
 fn r_value(a: Attribute, f: Figures, tolerated: Limit) -> Value
     requires { ⌜ f .smallest ≤ f .largest ⌝ }
-    ensures { λ r. ⌜ IsR a (asFigures f) (limitOf tolerated) r ⌝ }
+    ensures { λ r. ⌜ r ≡ rAgainst a f tolerated ⌝ }
 {
     let range = f.largest - f.smallest;
     Value {
@@ -111,7 +83,7 @@ fn no_value() -> Value
 
 // The lot's verdict from those of H and R: over if either is, else undecided if either is, else kept.
 fn together(h: Verdict, r: Verdict) -> Verdict
-    ensures { λ v. ⌜ verdictOf v ≡ rule·together (verdictOf h) (verdictOf r) ⌝ }
+    ensures { λ v. ⌜ v ≡ rule·together h r ⌝ }
 {
     match h {
         Verdict::Over => Verdict::Over,
@@ -126,8 +98,8 @@ fn together(h: Verdict, r: Verdict) -> Verdict
 
 // The findings from attribute, card and figures.
 fn of_figures(a: Attribute, c: Card, f: Figures) -> Findings
-    requires { ⌜ Usual c (asFigures f) × (f .count ≤ mostHeld) ⌝ }
-    ensures { λ r. ⌜ IsFound a c (asFigures f) r ⌝ }
+    requires { ⌜ IsReportable c f ⌝ }
+    ensures { λ r. ⌜ r ≡ findingsOf a c f ⌝ }
 {
     let n = f.count as usize;
     let places = a.mean_places(f.count) as u8;
@@ -143,8 +115,9 @@ fn of_figures(a: Attribute, c: Card, f: Figures) -> Findings
             lot: Verdict::Undecided,
         };
     }
-    let q = values::ratio(a, c.seeds, c.factor, f);
-    let h = h_value(q, c.offset, values::critical_at(c.critical[n]));
+    let head = c.head;
+    let q = values::ratio(a, head, f);
+    let h = h_value(q, head.offset, values::critical_at(c.critical[n]));
     let r = r_value(a, f, values::tolerated_for(c, f.count, f.sum));
     let by_h = h.verdict;
     let by_r = r.verdict;
@@ -159,16 +132,17 @@ fn of_figures(a: Attribute, c: Card, f: Figures) -> Findings
     }
 }
 
-// The findings from attribute, card and the first n results.
+// The findings from attribute, card and the first n results, where these are reportable.
 pub fn of_lot(a: Attribute, c: Card, results: &[u16; MOST_HELD], n: usize) -> Found
-    ensures { λ r. ⌜ Finds a c n (now (results .entry)) r ⌝ }
+    ensures { λ r. ⌜ r ≡ foundOf a c (figuresOf n (inOrder (now (results .entry)))) ⌝ }
 {
     if MOST_HELD < n {
-        return Found::Unusual;
+        return Found::NotReportable;
     }
     let f = figures::figures_of(results, n);
-    if figures::is_usual(f, c.factor, c.seeds, c.rows) {
-        return Found::Usual(of_figures(a, c, f));
+    let head = c.head;
+    if figures::are_within_limits(f, head, c.rows) {
+        return Found::Reportable(of_figures(a, c, f));
     }
-    Found::Unusual
+    Found::NotReportable
 }

@@ -8,11 +8,11 @@ use lib.ListN.{length}
 use denote.Ref.{RefT, ptr, now}
 use Rattle.rules.specs.Choice.{pick}
 use Rattle.rules.specs.Fields.{allDigits}
-use Rattle.rules.specs.Lines.{lineAt, digitsAt}
 use Rattle.rules.specs.Frames.{frameOf}
 use Rattle.rules.specs.declared.Frame.{Frame}
 use Rattle.rules.specs.declared.Frame.the-variants.{Bad}
 use Rattle.frames.specs.declared.Line.{Line}
+use Rattle.frames.specs.Runs.{lineAt, digitsAt}
 
 -- r is the digits of the line of the sheet s that starts at `at`, and it is that very part of the sheet: it points to the sheet's own
 -- bytes, from `at` on (from the sheet's end on where `at` is past it)
@@ -24,7 +24,9 @@ pub record CutAt (s : RefT (List ℕ)) (at : ℕ) (r : RefT (List ℕ)) : Type 0
 abbrev pub frameAt : List ℕ → ℕ → Frame
 frameAt s a = pick (ltb (a + length (lineAt s a)) (length s)) (frameOf (lineAt s a)) Bad
 
--- the frame, and the place of the end byte where the line has nothing but digits
+-- the frame, and where the line's digits end, on a bad line too: that is the place of the end byte where the line has nothing but
+-- digits
 pub record LineAt (s : List ℕ) (a : ℕ) (r : Line) : Type 0 where
   pub frame : r .frame ≡ frameAt s a
+  pub digits : r .end ≡ a + length (digitsAt s a)
   pub end : allDigits (lineAt s a) ≡ true → r .end ≡ a + length (lineAt s a)

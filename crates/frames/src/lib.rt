@@ -3,14 +3,20 @@ ghost use mathlib.Core.Path.{_≡_};
 ghost use mathlib.Core.Bool.{true};
 ghost use Prim.Native.Nat.{_+_, _≤_};
 ghost use lib.ListN.{length, drop};
-ghost use Rattle.rules.specs.Lines.{run};
 ghost use Rattle.rules.specs.Fields.{isDigit, allDigits, valueOf, fieldOf};
 ghost use Rattle.rules.specs.Frames.{lotFrame, cardFrame, criticalFrame, rangeFrame, resultFrame, endFrame, kindFrame, frameOf};
+ghost use Rattle.frames.specs.Runs.{runOf, allPass};
 ghost use Rattle.frames.specs.Cutting.{CutAt, LineAt};
+use rules::CARD_DIGITS;
+use rules::CRITICAL_DIGITS;
+use rules::END_DIGITS;
 use rules::Frame;
+use rules::LOT_DIGITS;
+use rules::RANGE_DIGITS;
+use rules::RESULT_DIGITS;
 use rules::checks;
 
-// A line's frame, and the place of its end byte.
+// A line's frame, and where its digits end: on a line of digits alone, the place of its end byte.
 pub struct Line {
     pub frame: Frame,
     pub end: usize,
@@ -22,12 +28,42 @@ fn is_digit(c: u8) -> bool
     ((b'0' <= c) & (c <= b'9')) | ((b'A' <= c) & (c <= b'F'))
 }
 
+// Whether the eight bytes from `at` on are digits. With no branch: the compiler looks at all of them together.
+fn eight_digits(sheet: &[u8], at: usize) -> bool
+    requires { ⌜ at + 8 ≤ length (now sheet) ⌝ }
+    ensures { λ r. ⌜ r ≡ allPass isDigit (now (sheet .entry)) at 8 ⌝ }
+{
+    is_digit(sheet[at])
+        & is_digit(sheet[at + 1])
+        & is_digit(sheet[at + 2])
+        & is_digit(sheet[at + 3])
+        & is_digit(sheet[at + 4])
+        & is_digit(sheet[at + 5])
+        & is_digit(sheet[at + 6])
+        & is_digit(sheet[at + 7])
+}
+
+// A place from `at` on with nothing but digits before it, as many eights of them as there are.
+fn eights_end(sheet: &[u8], at: usize) -> usize
+    requires { ⌜ at ≤ length (now sheet) ⌝ }
+    ensures { λ r. ⌜ (at + runOf isDigit (drop at (now (sheet .entry))) ≡ r + runOf isDigit (drop r (now (sheet .entry)))) × (r ≤ length (now (sheet .entry))) ⌝ }
+{
+    let mut past = at;
+    while 8 <= sheet.len() - past {
+        if !eight_digits(sheet, past) {
+            return past;
+        }
+        past += 8;
+    }
+    past
+}
+
 // Where the digits that start at `at` end: at the first byte that is none, or at the sheet's end.
 fn digits_end(sheet: &[u8], at: usize) -> usize
     requires { ⌜ at ≤ length (now sheet) ⌝ }
-    ensures { λ r. ⌜ (r ≡ at + run (drop at (now (sheet .entry)))) × (r ≤ length (now (sheet .entry))) ⌝ }
+    ensures { λ r. ⌜ (r ≡ at + runOf isDigit (drop at (now (sheet .entry)))) × (r ≤ length (now (sheet .entry))) ⌝ }
 {
-    let mut i = at;
+    let mut i = eights_end(sheet, at);
     while i < sheet.len() {
         if !is_digit(sheet[i]) {
             return i;
@@ -74,7 +110,7 @@ fn lot_frame(line: &[u8]) -> Frame
     requires { ⌜ allDigits (now line) ≡ true ⌝ }
     ensures { λ r. ⌜ r ≡ lotFrame (now (line .entry)) ⌝ }
 {
-    if line.len() == 8 {
+    if line.len() == LOT_DIGITS {
         return Frame::Lot {
             attribute: field(line, 2, 2),
             containers: field(line, 4, 4),
@@ -87,7 +123,7 @@ fn card_frame(line: &[u8]) -> Frame
     requires { ⌜ allDigits (now line) ≡ true ⌝ }
     ensures { λ r. ⌜ r ≡ cardFrame (now (line .entry)) ⌝ }
 {
-    if line.len() == 10 {
+    if line.len() == CARD_DIGITS {
         return Frame::Card {
             factor: field(line, 2, 2),
             offset: field(line, 4, 2),
@@ -101,7 +137,7 @@ fn critical_frame(line: &[u8]) -> Frame
     requires { ⌜ allDigits (now line) ≡ true ⌝ }
     ensures { λ r. ⌜ r ≡ criticalFrame (now (line .entry)) ⌝ }
 {
-    if line.len() == 8 {
+    if line.len() == CRITICAL_DIGITS {
         return Frame::Critical {
             count: field(line, 2, 2),
             value: field(line, 4, 4),
@@ -114,7 +150,7 @@ fn range_frame(line: &[u8]) -> Frame
     requires { ⌜ allDigits (now line) ≡ true ⌝ }
     ensures { λ r. ⌜ r ≡ rangeFrame (now (line .entry)) ⌝ }
 {
-    if line.len() == 14 {
+    if line.len() == RANGE_DIGITS {
         return Frame::Range {
             lowest: field(line, 2, 2),
             highest: field(line, 4, 2),
@@ -129,7 +165,7 @@ fn result_frame(line: &[u8]) -> Frame
     requires { ⌜ allDigits (now line) ≡ true ⌝ }
     ensures { λ r. ⌜ r ≡ resultFrame (now (line .entry)) ⌝ }
 {
-    if line.len() == 10 {
+    if line.len() == RESULT_DIGITS {
         return Frame::Result {
             container: field(line, 2, 4),
             x: field(line, 6, 4),
@@ -142,7 +178,7 @@ fn end_frame(line: &[u8]) -> Frame
     requires { ⌜ allDigits (now line) ≡ true ⌝ }
     ensures { λ r. ⌜ r ≡ endFrame (now (line .entry)) ⌝ }
 {
-    if line.len() == 4 {
+    if line.len() == END_DIGITS {
         return Frame::End {
             count: field(line, 2, 2),
         };

@@ -1,42 +1,37 @@
 -- Worked cases of lists of calls, computed on the ledger: each refusal's number, and which comes first where several apply.
 -- Assumes nothing.
-use Prim.Native.Nat.{ℕ, zero, suc, _+_}
+use Prim.Native.Nat.{ℕ, zero, suc, _+_, _-_, _/_}
 use mathlib.Core.Path.{_≡_, refl}
 use mathlib.Core.List.{List, [], _∷_, _++_}
 use lib.ListN.{replicate}
 use Rattle.rules.specs.declared.Lot.{Lot}
 use Rattle.rules.specs.declared.Card.{Card}
-use Rattle.rules.specs.Places.{total, shared}
-use Rattle.rules.specs.Cards.{rowsGood, criticalsGood, agree}
+use Rattle.rules.specs.Contents.{total, shared}
+use Rattle.rules.specs.Limits.{mostHeld, mostRows, criticals}
+use Rattle.rules.specs.Cards.{headOf, cardOf, withRows, rowsGood, criticalsGood, agree, sameRows}
 use Rattle.history.specs.Calls.{Calls, start, opens, enters, withdraws, joins, judge, answers, counts}
 
 -- an attribute and the number of containers
 abbrev lotOf : ℕ → ℕ → Lot
 lotOf a n = record { attribute = a; containers = n }
 
--- a factor, a critical value (one more than it) for N = 4 and one for N = 5, and a number of rows, of which the first is filled
-abbrev cardOf : ℕ → ℕ → ℕ → ℕ → Card
-cardOf f four five rows =
-    record {
-      factor = f;
-      offset = 10;
-      seeds = 1000;
-      critical = replicate 4 0 ++ four ∷ five ∷ replicate 55 0;
-      rows = rows;
-      lowest = replicate 96 5;
-      highest = replicate 96 60;
-      bound = replicate 96 9800;
-      tolerated = replicate 96 200;
-    }
+-- more containers than a tally holds
+abbrev many : ℕ
+many = mostHeld + 10
+
+-- a factor, a critical value (one more than it) for N = 4 and one for N = 5, and a number of rows
+abbrev cardWith : ℕ → ℕ → ℕ → ℕ → Card
+cardWith f four five rows =
+    cardOf (headOf f 10 1000) (replicate 4 0 ++ four ∷ five ∷ replicate (criticals - 6) 0) rows (replicate mostRows 5) (replicate mostRows mostHeld) (replicate mostRows 9800) (replicate mostRows 200)
 
 abbrev card : Card
-card = cardOf 10 0 156 1
+card = cardWith 10 0 156 1
 
 abbrev opened : Calls
-opened = opens start (lotOf 0 70) card
+opened = opens start (lotOf 0 many) card
 
 -- an open: bad lot before bad card before card full; a refused one leaves what was there
-open-numbers : answers (opens (opens (opens (opens (opens (opens opened (lotOf 3 70) (cardOf 9 0 0 97)) (lotOf 0 0) card) (lotOf 0 70) (cardOf 9 0 156 97)) (lotOf 0 70) (cardOf 10 1 156 1)) (lotOf 2 70) card) (lotOf 1 70) (cardOf 10 0 0 97))
+open-numbers : answers (opens (opens (opens (opens (opens (opens opened (lotOf 3 many) (cardWith 9 0 0 (mostRows + 1))) (lotOf 0 0) card) (lotOf 0 many) (cardWith 9 0 156 (mostRows + 1))) (lotOf 0 many) (cardWith 10 1 156 1)) (lotOf 2 many) card) (lotOf 1 many) (cardWith 10 0 0 (mostRows + 1)))
     ≡ 5 ∷ 4 ∷ 4 ∷ 4 ∷ 3 ∷ 3 ∷ 0 ∷ []
 unfolding answers judge criticalsGood rowsGood
 open-numbers = refl
@@ -48,7 +43,7 @@ fresh-numbers = refl
 
 -- an enter: no such container before result too high before already held; a withdraw answers 10 alone
 abbrev some : Calls
-some = withdraws (withdraws (withdraws (withdraws (withdraws (enters (enters (enters (enters (enters (enters (enters opened 0 10001) 71 10001) 3 10001) 3 9800) 3 10001) 3 9700) 4 9700) 0) 71) 5) 3) 3
+some = withdraws (withdraws (withdraws (withdraws (withdraws (enters (enters (enters (enters (enters (enters (enters opened 0 10001) (many + 1) 10001) 3 10001) 3 9800) 3 10001) 3 9700) 4 9700) 0) (many + 1)) 5) 3) 3
 
 enter-numbers : answers some ≡ 10 ∷ 0 ∷ 10 ∷ 10 ∷ 10 ∷ 0 ∷ 8 ∷ 7 ∷ 0 ∷ 7 ∷ 6 ∷ 6 ∷ 0 ∷ []
 unfolding answers judge criticalsGood rowsGood total
@@ -64,29 +59,32 @@ unfoldable filled : Calls → ℕ → ℕ → Calls
 filled cs a zero = cs
 filled cs a (suc n) = enters (filled cs a n) (a + suc n) 9800
 
--- already held before full; at 59 there is a place free
-full-number : judge (enters (filled opened 0 60) 61 9800) .number ≡ 9
+-- already held before full; with one result fewer there is a place free
+full-number : judge (enters (filled opened 0 mostHeld) (mostHeld + 1) 9800) .number ≡ 9
 unfolding judge filled criticalsGood rowsGood total
 full-number = refl
 
-held-number : judge (enters (filled opened 0 60) 60 9800) .number ≡ 8
+held-number : judge (enters (filled opened 0 mostHeld) mostHeld 9800) .number ≡ 8
 unfolding judge filled criticalsGood rowsGood total
 held-number = refl
 
-last-number : judge (enters (filled opened 0 59) 60 9800) .number ≡ 0
+last-number : judge (enters (filled opened 0 (mostHeld - 1)) mostHeld 9800) .number ≡ 0
 unfolding judge filled criticalsGood rowsGood total
 last-number = refl
+
+abbrev half : ℕ
+half = mostHeld / 2
 
 -- a join: other lot before shared container before too many together
 abbrev others : List Calls
 others =
     joins (filled opened 0 2) start
-    ∷ joins (filled opened 0 2) (filled (opens start (lotOf 0 71) card) 0 2)
-    ∷ joins (filled opened 0 2) (filled (opens start (lotOf 0 70) (cardOf 10 0 157 1)) 0 2)
+    ∷ joins (filled opened 0 2) (filled (opens start (lotOf 0 (many + 1)) card) 0 2)
+    ∷ joins (filled opened 0 2) (filled (opens start (lotOf 0 many) (cardWith 10 0 157 1)) 0 2)
     ∷ joins (filled opened 0 2) (filled opened 1 2)
-    ∷ joins (filled opened 0 31) (filled opened 30 31)
-    ∷ joins (filled opened 0 31) (filled opened 31 30)
-    ∷ joins (filled opened 0 31) (filled opened 31 29)
+    ∷ joins (filled opened 0 (half + 1)) (filled opened half (half + 1))
+    ∷ joins (filled opened 0 (half + 1)) (filled opened (half + 1) half)
+    ∷ joins (filled opened 0 (half + 1)) (filled opened (half + 1) (half - 1))
     ∷ joins opened opened
     ∷ joins start start
     ∷ []
@@ -96,33 +94,23 @@ numbers [] = []
 numbers (cs ∷ l) = judge cs .number ∷ numbers l
 
 join-numbers : numbers others ≡ 11 ∷ 11 ∷ 11 ∷ 12 ∷ 12 ∷ 13 ∷ 0 ∷ 0 ∷ 0 ∷ []
-unfolding numbers judge filled criticalsGood rowsGood agree total shared
+unfolding numbers judge filled criticalsGood rowsGood agree sameRows total shared
 join-numbers = refl
 
 -- places past the last row do not count: two cards that differ there are the same
 abbrev beyond : Card
 beyond =
-    record {
-      factor = 10;
-      offset = 10;
-      seeds = 1000;
-      critical = replicate 5 0 ++ 156 ∷ replicate 55 0;
-      rows = 1;
-      lowest = 5 ∷ replicate 95 7;
-      highest = 60 ∷ replicate 95 8;
-      bound = 9800 ∷ replicate 95 9;
-      tolerated = 200 ∷ replicate 95 1;
-    }
+    withRows card 1 (5 ∷ replicate (mostRows - 1) 7) (mostHeld ∷ replicate (mostRows - 1) 8) (9800 ∷ replicate (mostRows - 1) 9) (200 ∷ replicate (mostRows - 1) 1)
 
-beyond-number : judge (joins (filled opened 0 2) (filled (opens start (lotOf 0 70) beyond) 2 2)) .number ≡ 0
-unfolding judge filled criticalsGood rowsGood agree total shared
+beyond-number : judge (joins (filled opened 0 2) (filled (opens start (lotOf 0 many) beyond) 2 2)) .number ≡ 0
+unfolding judge filled criticalsGood rowsGood agree sameRows total shared
 beyond-number = refl
 
 -- counted since the last accepted open: a refused open does not begin anew, an accepted one does
-counted : counts (joins (withdraws (opens (filled opened 0 3) (lotOf 3 70) card) 2) (filled opened 3 4)) ≡ record { entered = 3; withdrawn = 1; joined = 4 }
-unfolding counts judge filled criticalsGood rowsGood agree total shared
+counted : counts (joins (withdraws (opens (filled opened 0 3) (lotOf 3 many) card) 2) (filled opened 3 4)) ≡ record { entered = 3; withdrawn = 1; joined = 4 }
+unfolding counts judge filled criticalsGood rowsGood agree sameRows total shared
 counted = refl
 
-counted-anew : counts (enters (opens (filled opened 0 3) (lotOf 1 70) card) 2 9800) ≡ record { entered = 1; withdrawn = 0; joined = 0 }
+counted-anew : counts (enters (opens (filled opened 0 3) (lotOf 1 many) card) 2 9800) ≡ record { entered = 1; withdrawn = 0; joined = 0 }
 unfolding counts judge filled criticalsGood rowsGood total
 counted-anew = refl

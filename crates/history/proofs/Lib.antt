@@ -1,7 +1,8 @@
 pub mod Balance
 pub mod Sheets
-pub mod Together
+pub mod Agreement
 pub mod EndlessLaws
+pub mod Texts
 pub mod Printed
 pub mod Reporting
 pub mod Theorem

@@ -7,8 +7,8 @@ use lib.ListN.{length, length-append, replicate}
 use Rattle.rules.specs.Ledger.{Ledger, enterOn}
 use Rattle.rules.specs.declared.Lot.{Lot}
 use Rattle.rules.specs.declared.Card.{Card}
-use Rattle.reading.specs.Spelling.{Entry, Made}
-use Rattle.reading.specs.Spelling as spelling
+use Rattle.reading_theorems.specs.Spelling.{Entry, Made}
+use Rattle.reading_theorems.specs.Spelling as spelling
 use Rattle.history.specs.Calls.{Calls, start, opens, enters, judge, ledger, answers, entersAll}
 
 -- one entry more

@@ -6,84 +6,79 @@ use mathlib.Core.Path.{_≡_, sym, ap, ap₂, _∙_}
 use mathlib.Core.List.{List}
 use denote.Ref.{now}
 use Rattle.rules.specs.Limits.{leastReported}
-use Rattle.rules.specs.Places.{Places, total, size}
-use Rattle.rules.specs.Cards.{headGood}
+use Rattle.rules.specs.Contents.{Contents, total, size}
 use Rattle.rules.specs.Report.{reportOn}
 use Rattle.rules.specs.Ledger.{Ledger, held, openOn, enterOn, withdrawOn, joinOn}
-use Rattle.rules.proofs.Tests.{and-left}
-use Rattle.rules.proofs.CardLaws.{open-card}
-use Rattle.rules.proofs.Bounds.{good-head}
+use Rattle.rules.proofs.Bounds.{opened-head}
 use Rattle.tally.specs.declared.Tally.{Tally}
 use Rattle.tally.specs.View.{view}
 use Rattle.tally.specs.Calls.{Sound}
 use Rattle.tally.proofs.Steps.{size-is}
 use Rattle.sheet.specs.declared.Answer.{Answer}
 use Rattle.sheet.specs.Promise.{outcomeOf}
-use Rattle.reading.proofs.Spelt.{spelled}
+use Rattle.reading_theorems.proofs.Spelt.{spelled}
 use Rattle.history.specs.Calls.{Calls, ledger}
 use Rattle.history.specs.Run.{Run, read}
 use Rattle.history.specs.Sheets.{SheetsAreRuns}
 use Rattle.history.specs.Whole.{Ends, Whole}
 use Rattle.history.specs.Alike.{OrderIsFree}
-use Rattle.history.proofs.Balance.{fair}
-use Rattle.history.proofs.Together.{together}
+use Rattle.history.proofs.Balance.{balanced}
+use Rattle.history.proofs.Agreement.{agrees}
 use Rattle.history.proofs.Printed.{lines}
 use Rattle.history.proofs.Reporting.{same-report, enough, text-is}
 
 ends : (cs : Calls) (ns : List ℕ) (t : Tally) → Run cs ns t → Ends cs ns t
 ends cs ns t r =
-    let i = together r in
+    let i = agrees r in
     record {
       same = i .same;
       judged = i .judged;
-      count = fair cs .even;
+      count = balanced cs .even;
       number = sym (size-is t (i .sound)) ∙ ap held (i .same);
       sound = i .sound;
     }
 
 -- where something is held there is a lot, so the card was accepted by an open and has an F
-nothing : (n : ℕ) (f : Places) → n ≡ 0 → size n f ≡ 0
+nothing : (n : ℕ) (f : Contents) → n ≡ 0 → size n f ≡ 0
 unfolding total
 nothing n f e = rw e
 
-pub has-factor : (t : Tally) → Sound t → leastReported ≤ held (view t) → 1 ≤ t .card .factor
+pub has-factor : (t : Tally) → Sound t → leastReported ≤ held (view t) → 1 ≤ t .card .head .factor
 has-factor t s h = go (decLe 1 (t .lot .containers))
   where
-    go : Dec (1 ≤ t .lot .containers) → 1 ≤ t .card .factor
-    go (yes p) =
-        let good = good-head (t .lot .attribute) (t .card) (and-left (headGood (t .lot .attribute) (t .card .factor) (t .card .offset) (t .card .seeds)) _ (open-card (t .lot) (t .card) (s .good p))) in
-        omega (arith, good .factor)
-    go (no p) = absurd (omega (arith, nothing (t .lot .containers) (view t .places) (omega arith)))
+    go : Dec (1 ≤ t .lot .containers) → 1 ≤ t .card .head .factor
+    go (yes p) = omega (arith, opened-head (t .lot) (t .card) (s .good p) .factor)
+    go (no p) = absurd (omega (arith, nothing (t .lot .containers) (view t .contents) (omega arith)))
 
 pub whole : Whole
 whole =
     record {
       ends = ends;
       alike = λ cs ds ns ms t u p q e κ₁ κ₂ b₁ b₂ l r₁ r₂ a₁ a₂ x y.
-          let i = together p in
-          let j = together q in
-          same-report (ledger cs) (now b₁) (now b₂) l r₁ r₂ (now a₁) (now a₂)
+          let i = agrees p in
+          let j = agrees q in
+          same-report (now b₁) (now b₂) r₁ r₂ (now a₁) (now a₂) (ledger cs) l
           (x .right (i .sound) ∙ ap (λ (g : Ledger). reportOn g (now b₁)) (i .same))
           (y .right (j .sound) ∙ ap (λ (g : Ledger). reportOn g (now b₂)) (j .same ∙ sym e));
       reports = λ cs ns t p κ b n a x.
-          let i = together p in
+          let i = agrees p in
           let h = x .right (i .sound) in
-          rw (text-is (view t) (now b) n (now a) h, ← i .same)
-          (lines (view t) (enough (view t) (now b) n (now a) h) (has-factor t (i .sound) (enough (view t) (now b) n (now a) h)));
+          let many = enough (view t) (now b) n (now a) h in
+          rw (text-is (view t) (now b) n (now a) h, ← i .same) (lines (view t) many (has-factor t (i .sound) many));
     }
 
 pub order-is-free : OrderIsFree
 order-is-free cs ds ns ms t u p q e =
-    let i = together p in
-    let j = together q in
+    let i = agrees p in
+    let j = agrees q in
     let s : view t ≡ view u = i .same ∙ (e ∙ sym (j .same)) in
     record {
       opens = λ l c r w a b. a .right ∙ (ap (λ (g : Ledger). openOn g l c) s ∙ sym (b .right));
       enters = λ k x r w a b. a .right (i .sound) ∙ (ap (λ (g : Ledger). enterOn g k x) s ∙ sym (b .right (j .sound)));
       withdraws = λ k r w a b. a .right (i .sound) ∙ (ap (λ (g : Ledger). withdrawOn g k) s ∙ sym (b .right (j .sound)));
       joins = λ o v f h d r w a b.
-          let m = together f in
-          let n = together h in
+          let m = agrees f in
+          let n = agrees h in
           a .right (i .sound, m .sound) ∙ (ap₂ (λ (x y : Ledger). joinOn x y) s (m .same ∙ (d ∙ sym (n .same))) ∙ sym (b .right (j .sound, n .sound)));
     }
 

@@ -16,7 +16,7 @@ use Rattle.history.specs.Run.{Run}
 use Rattle.history.specs.Steps.{OpenStep, EnterStep, WithdrawStep, JoinStep}
 
 -- two tallies answer a further call with one number, and stand for one ledger after it
-pub record Alike (t u : Tally) : Type 0 where
+pub record AnswersAlike (t u : Tally) : Type 0 where
   pub opens : (l : Lot) (c : Card) (r q : Outcome) → OpenStep t l c r → OpenStep u l c q → answer r ≡ answer q
   pub enters : (k x : ℕ) (r q : Outcome) → EnterStep t k x r → EnterStep u k x q → answer r ≡ answer q
   pub withdraws : (k : ℕ) (r q : Outcome) → WithdrawStep t k r → WithdrawStep u k q → answer r ≡ answer q
@@ -24,7 +24,7 @@ pub record Alike (t u : Tally) : Type 0 where
 
 -- any two lists of calls that end with the same lot, card and held results
 abbrev pub OrderIsFree : Type 0
-OrderIsFree = (cs ds : Calls) (ns ms : List ℕ) (t u : Tally) → Run cs ns t → Run ds ms u → ledger cs ≡ ledger ds → Alike t u
+OrderIsFree = (cs ds : Calls) (ns ms : List ℕ) (t u : Tally) → Run cs ns t → Run ds ms u → ledger cs ≡ ledger ds → AnswersAlike t u
 
 -- Two reports are alike: the same refusal, or the same length and the same text. Every other byte of either buffer stays.
 pub record SameReport (b₁ b₂ : List ℕ) (r₁ r₂ : Reported) (a₁ a₂ : List ℕ) : Type 0 where

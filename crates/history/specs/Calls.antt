@@ -6,7 +6,7 @@ use lib.Dec.{eqb}
 use Rattle.rules.specs.Choice.{pick}
 use Rattle.rules.specs.declared.Lot.{Lot}
 use Rattle.rules.specs.declared.Card.{Card}
-use Rattle.reading.specs.Spelling.{Entry}
+use Rattle.reading_theorems.specs.Spelling.{Entry}
 use Rattle.rules.specs.Ledger.{Ledger, Judged, freshLedger, held, openOn, enterOn, withdrawOn, joinOn}
 
 -- a list of calls, the last one outermost; a join has the list of the calls that made the other tally

@@ -10,7 +10,7 @@ use Rattle.rules.specs.declared.Card.{Card}
 use Rattle.tally.specs.declared.Tally.{Tally}
 use Rattle.sheet.specs.declared.Answer.the-variants.{Accepted}
 use Rattle.sheet.specs.declared.Reading.{Reading}
-use Rattle.reading.specs.Spelling.{entriesOf}
+use Rattle.reading_theorems.specs.Spelling.{entriesOf}
 use Rattle.history.specs.Calls.{start, opens, entersAll}
 use Rattle.history.specs.Run.{Run}
 use Rattle.history.specs.Steps.{ReadStep}

@@ -6,25 +6,27 @@ use mathlib.Core.List.{List, [], _∷_, _++_}
 use Rattle.rules.specs.Rounding.{distance, Nearest}
 use Rattle.rules.specs.Text.{text, decimal, pointed}
 use Rattle.rules.specs.Attributes.{attributeOf, isVoid}
-use Rattle.rules.specs.Figures.{Fraction, figures, ratio, none, limit, criticalFor}
+use Rattle.rules.specs.Figures.{figures, ratio, criticalFor}
 use Rattle.rules.specs.Report.{limitText}
 use Rattle.rules.specs.Lines.{ended, linesOf}
 use Rattle.rules.specs.Ledger.{Ledger, held}
+use Rattle.rules.specs.declared.Fraction.{Fraction}
+use Rattle.rules.specs.declared.Limit.the-variants.{Absent, At}
 
 -- V/W of what a ledger holds, exact
 abbrev pub quotient : Ledger → Fraction
-quotient g = ratio (attributeOf (g .lot .attribute)) (g .card) (figures g)
+quotient g = ratio (attributeOf (g .lot .attribute)) (g .card .head) (figures g)
 
 -- Exact H is V/W - G/10. With V/W = over / under it has (100·over - 10·G·under) / under hundredths.
 abbrev pub upper : Ledger → ℕ
 upper g = 100 * quotient g .over
 
 abbrev pub lower : Ledger → ℕ
-lower g = 10 * g .card .offset * quotient g .under
+lower g = 10 * g .card .head .offset * quotient g .under
 
 -- exact H exceeds a critical value of v hundredths
 abbrev pub Exceeds : Ledger → ℕ → Type 0
-Exceeds g v = (v + 10 * g .card .offset) * quotient g .under < upper g
+Exceeds g v = (v + 10 * g .card .head .offset) * quotient g .under < upper g
 
 -- Where exact H is not below zero: of all two-place decimals, h hundredths is nearest to it, the larger of two equally near;
 -- k hundredths below zero are never nearer.
@@ -49,8 +51,8 @@ pub record WorkedOut (g : Ledger) (line : List ℕ) : Type 0 where
   pub exact : 0 < quotient g .under
   pub rounded : lower g ≤ upper g → NearestH g value
   pub zero : upper g < lower g → value ≡ 0
-  pub against : (v : ℕ) → criticalFor (g .card) (held g) ≡ limit v → Against g value v word
-  pub without : criticalFor (g .card) (held g) ≡ none → word ≡ text "open"
+  pub against : (v : ℕ) → criticalFor (g .card) (held g) ≡ At v → Against g value v word
+  pub without : criticalFor (g .card) (held g) ≡ Absent → word ≡ text "open"
 
 -- The text of a report: five lines, the first with the number held as N, the third with H, which is void beyond the limits of
 -- the mean and else worked out.

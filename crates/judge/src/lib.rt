@@ -3,6 +3,7 @@ ghost use mathlib.Core.Path.{_≡_};
 ghost use Rattle.rules.specs.Numbers.{printedAnswer};
 ghost use Rattle.rules.specs.Printing.{printOn};
 use rules::Printed;
+use rules::Refusal;
 use rules::Reported;
 use sheet::Answer;
 
@@ -17,12 +18,12 @@ pub fn judge(sheet: &[u8], buf: &mut [u8]) -> Printed
     let answer = reading.answer;
     let t = reading.tally;
     match answer {
-        Answer::Refused(e, line) => refusing::print(buf, e.number(), line),
+        Answer::Refused(e, line) => refusing::print(buf, e, line),
         Answer::Accepted(lines) => {
-            let told = report::report(t, buf);
-            match told {
+            let reported = report::report(t, buf);
+            match reported {
                 Reported::Length(n) => Printed::Length(n),
-                Reported::TooFew => refusing::print(buf, 15, lines),
+                Reported::TooFew => refusing::print(buf, Refusal::TooFew, lines),
                 Reported::BufferShort => Printed::BufferShort,
             }
         }

@@ -1,11 +1,12 @@
 // The line of a refusal: REFUSED, its number and its sheet line.
 ghost use mathlib.Core.Path.{_≡_};
 ghost use lib.ListN.{length};
-ghost use Rattle.rules.specs.Numbers.{printedAnswer};
+ghost use Rattle.rules.specs.Numbers.{numberOf, printedAnswer};
 ghost use Rattle.rules.specs.Text.{laidIn};
 ghost use Rattle.rules.specs.Printing.{refusedLine};
-ghost use Rattle.decimal.specs.Laying.{Lining};
+ghost use Rattle.decimal.specs.Laying.{LaysLine};
 use rules::Printed;
+use rules::Refusal;
 
 // How long it is.
 fn size(e: u32, line: usize) -> usize
@@ -16,7 +17,7 @@ fn size(e: u32, line: usize) -> usize
 
 // REFUSED 8 6
 fn refused_line(buf: &mut [u8], e: u32, line: usize) -> usize
-    ensures { λ r. ⌜ Lining (refusedLine e line) (now (buf .entry)) (now (buf .exit)) r ⌝ }
+    ensures { λ r. ⌜ LaysLine (refusedLine e line) (now (buf .entry)) (now (buf .exit)) r ⌝ }
 {
     let a = decimal::bytes(buf, 0, b"REFUSED ");
     let b = decimal::number(buf, a, e as u64);
@@ -26,11 +27,12 @@ fn refused_line(buf: &mut [u8], e: u32, line: usize) -> usize
 }
 
 // The line into a buffer, where it fits.
-pub fn print(buf: &mut [u8], e: u32, line: usize) -> Printed
-    ensures { λ r. ⌜ printedAnswer r (now (buf .exit)) ≡ laidIn (refusedLine e line) (now (buf .entry)) ⌝ }
+pub fn print(buf: &mut [u8], e: Refusal, line: usize) -> Printed
+    ensures { λ r. ⌜ printedAnswer r (now (buf .exit)) ≡ laidIn (refusedLine (numberOf e) line) (now (buf .entry)) ⌝ }
 {
-    if buf.len() < size(e, line) {
+    let number = e.number();
+    if buf.len() < size(number, line) {
         return Printed::BufferShort;
     }
-    Printed::Length(refused_line(buf, e, line))
+    Printed::Length(refused_line(buf, number, line))
 }

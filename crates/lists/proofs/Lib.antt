@@ -1,7 +1,0 @@
-pub mod ListLaws
-pub mod WidthLaws
-pub mod NumberLaws
-pub mod TextLaws
-pub mod StepLaws
-pub mod ChangeLaws
-pub mod RunLaws

@@ -1,7 +1,7 @@
-// How many bytes a call and its answer take.
-ghost use mathlib.Core.Path.{_≡_};
-ghost use Rattle.lists.specs.Widths.{kindWidth, highestName, callWidth, answerWidth, Whole};
-use crate::bytes;
+// The two bytes that a call begins with, and how many bytes the call and its answer take.
+ghost use Prim.Native.Nat.{_≤_, _<_};
+ghost use lib.ListN.{length};
+use crate::numbers;
 
 pub const OPEN: u8 = 1;
 
@@ -15,12 +15,12 @@ pub const REPORT: u8 = 5;
 
 pub const WRITE: u8 = 6;
 
+pub const OPEN_WIDTH: usize = 1026;
+
 // By a call's kind, 0 for no kind.
-fn kind_width(kind: u8) -> usize
-    ensures { λ r. ⌜ r ≡ kindWidth kind ⌝ }
-{
+fn kind_width(kind: u8) -> usize {
     match kind {
-        OPEN => 1026,
+        OPEN => OPEN_WIDTH,
         ENTER => 6,
         WITHDRAW => 4,
         JOIN => 2,
@@ -31,15 +31,32 @@ fn kind_width(kind: u8) -> usize
 }
 
 // The highest number that names the tallies of a call.
-fn highest_name(kind: u8) -> u8
-    ensures { λ r. ⌜ r ≡ highestName kind ⌝ }
-{
+fn highest_name(kind: u8) -> u8 {
     if kind == JOIN { 3 } else { 1 }
+}
+
+// Which tally a call is made on.
+pub fn made_on(name: u8) -> usize
+    ensures { λ r. ⌜ r < 2 ⌝ }
+{
+    (name % 2) as usize
+}
+
+// Which tally is joined into it: the other, and for 2 and 3 the same.
+pub fn joined_from(name: u8) -> usize
+    ensures { λ r. ⌜ r < 2 ⌝ }
+{
+    match name {
+        0 => 1,
+        1 => 0,
+        2 => 0,
+        _ => 1,
+    }
 }
 
 // Of the call that stands first in a list, or 0 where none does.
 pub fn call_width(list: &[u8]) -> usize
-    ensures { λ r. ⌜ r ≡ callWidth (now (list .entry)) ⌝ }
+    ensures { λ r. ⌜ r ≤ length (now (list .entry)) ⌝ }
 {
     if list.len() < 2 {
         return 0;
@@ -55,13 +72,13 @@ pub fn call_width(list: &[u8]) -> usize
     width
 }
 
-// Of a call's answer.
-pub fn answer_width(call: &[u8]) -> usize
-    requires { ⌜ Whole (now call) ⌝ }
-    ensures { λ r. ⌜ r ≡ answerWidth (now (call .entry)) ⌝ }
-{
-    if call[0] < REPORT {
+// Of the answer to the call that stands first in a list: for a report and a write with the buffer that is lent.
+pub fn answer_width(list: &[u8]) -> usize {
+    if list.len() < 4 {
         return 1;
     }
-    3 + bytes::two(call, 2) as usize
+    if list[0] < REPORT {
+        return 1;
+    }
+    3 + numbers::two(list, 2) as usize
 }

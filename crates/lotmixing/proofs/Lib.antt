@@ -1,2 +1,2 @@
-pub mod ListingLaws
 pub mod Exact
+pub mod KeepingLaws

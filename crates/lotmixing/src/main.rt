@@ -1,19 +1,18 @@
 // lotmixing TOLERATED X X ..: prints `mixable` or `not mixable`, for component lots with the results X and a tolerated R.
 ghost use mathlib.Core.Path.{_≡_};
-ghost use Prim.Native.Nat.{_-_};
-ghost use Rattle.rules.specs.Numbers.{mixingAnswer};
-ghost use Rattle.words.specs.Words.{wordOf};
+ghost use mathlib.Core.List.{List, [], _∷_, _++_};
+ghost use Prim.Native.Nat.{ℕ, _-_};
 ghost use Rattle.io.specs.Counts.{Counts};
-ghost use Rattle.bench.specs.Saying.{saidOf};
-ghost use Rattle.lotmixing.specs.Listing.{wordsRead, takes, OneMore, none, ReadOf, saidToRead, Answers};
-use bench::LINE;
-use bench::Said;
-use rules::Mixing;
-use rules::checks;
-use words::Word;
+ghost use Rattle.decimal.specs.Laying.{Laid};
+ghost use Rattle.program_lines.specs.Printing.{saidToMixing, mixingPrints};
+ghost use Rattle.lotmixing.specs.Listing.{KeptOf, OneMore, ReadOf};
+use decimal_words::Word;
+use program_lines::LINE;
+use program_lines::Said;
+use rules::MOST_MIXED;
 
 // Numbers that are kept: the tolerated R, and one result more than may be mixed.
-const KEPT: usize = 62;
+const KEPT: usize = MOST_MIXED + 2;
 
 // The words so far: whether each is a number, and the numbers, of which the first `count` places count.
 struct Listed {
@@ -24,7 +23,7 @@ struct Listed {
 
 // No words.
 fn empty() -> Listed
-    ensures { λ r. ⌜ wordsRead r ≡ none ⌝ }
+    ensures { λ r. ⌜ KeptOf [] r ⌝ }
 {
     Listed {
         plain: true,
@@ -35,11 +34,11 @@ fn empty() -> Listed
 
 // One word more.
 fn with_word(listed: Listed, word: &[u8]) -> Listed
-    ensures { λ r. ⌜ wordsRead r ≡ takes (wordsRead listed) (wordOf (now (word .entry))) ⌝ }
+    ensures { λ r. ⌜ ((words : List (List ℕ)) → KeptOf words listed → KeptOf (words ++ (now (word .entry) ∷ [])) r) ⌝ }
 {
     let count = listed.count;
     let mut values = listed.values;
-    let number = words::number(word);
+    let number = decimal_words::number(word);
     let Word::Number(x) = number else {
         return Listed {
             plain: false,
@@ -58,39 +57,32 @@ fn with_word(listed: Listed, word: &[u8]) -> Listed
     }
 }
 
-fn said_of(mixing: Mixing) -> Said
-    ensures { λ r. ⌜ r ≡ saidOf (mixingAnswer mixing) ⌝ }
-{
-    match mixing {
-        Mixing::Mixable => Said::Value(1),
-        Mixing::NotMixable => Said::Value(0),
-        Mixing::ResultTooHigh => Said::Refused(7),
-        Mixing::OutsideTable => Said::Refused(17),
-    }
-}
-
 // What is said to the words.
 fn said_to(listed: Listed) -> Said
-    ensures { λ r. ⌜ r ≡ saidToRead (wordsRead listed) ⌝ }
+    ensures { λ r. ⌜ ((words : List (List ℕ)) → KeptOf words listed → r ≡ saidToMixing words) ⌝ }
 {
+    let count = listed.count;
+    let values = listed.values;
     if !listed.plain {
         return Said::Usage;
     }
-    let values = listed.values;
-    let count = checks::least(listed.count, KEPT);
     if count == 0 {
         return Said::Usage;
     }
+    // No words are kept so.
+    if KEPT < count {
+        return Said::Usage;
+    }
     let tolerated = values[0];
-    said_of(mixing::mixable(&values[1..count], tolerated))
+    program_lines::said_of(mixing::mixable(&values[1..count], tolerated).answered())
 }
 
 // The line to the words, and its length.
 fn answer(listed: Listed, line: &mut [u8; LINE]) -> usize
-    ensures { λ r. ⌜ Answers (wordsRead listed) (now (line .entry)) (now (line .exit)) r ⌝ }
+    ensures { λ r. ⌜ ((words : List (List ℕ)) → KeptOf words listed → Laid (mixingPrints words) (now (line .entry)) (now (line .exit)) r) ⌝ }
     ensures { λ r. ⌜ Counts r (now (line .exit)) ⌝ }
 {
-    bench::verdict_line(
+    program_lines::verdict_line(
         said_to(listed),
         b"usage: lotmixing TOLERATED X X ..",
         b"mixable",
@@ -101,16 +93,16 @@ fn answer(listed: Listed, line: &mut [u8; LINE]) -> usize
 
 // The words so far and argument i.
 fn with_argument(listed: Listed, i: usize) -> Listed
-    ensures { λ r. ⌜ OneMore (wordsRead listed) (wordsRead r) ⌝ }
+    ensures { λ r. ⌜ OneMore listed r ⌝ }
 {
-    let mut word = bench::word_buffer();
+    let mut word = program_lines::word_buffer();
     let n = os::arg(i, &mut word);
     with_word(listed, &word[..n])
 }
 
 // All arguments, of which there are `arguments` with the program's own name.
 fn read_words(arguments: usize) -> Listed
-    ensures { λ r. ⌜ ReadOf (arguments - 1) (wordsRead r) ⌝ }
+    ensures { λ r. ⌜ ReadOf (arguments - 1) r ⌝ }
 {
     let mut all = empty();
     let mut i = 1;

@@ -4,7 +4,6 @@ ghost use Rattle.io.specs.Counts.{Counts};
 ghost use Rattle.decimal.specs.Laying.{Laid};
 use libc::STDIN_FILENO;
 use libc::STDOUT_FILENO;
-use rules::Printed;
 
 // Places for the text: none that is printed is longer.
 const TEXT: usize = 256;
@@ -15,13 +14,10 @@ fn answer(sheet: &[u8], text: &mut [u8; TEXT]) -> usize
     ensures { λ r. ⌜ Counts r (now (text .exit)) ⌝ }
 {
     let printed = judge::judge(sheet, text);
-    match printed {
-        Printed::Length(n) => n,
-        Printed::BufferShort => 0,
-    }
+    printed.text_size().size
 }
 
-// The first 4,096 bytes of a sheet decide what is printed: a law of crate reading.
+// The first 4,096 bytes of a sheet decide what is printed: a law of crate reading_theorems.
 fn main() {
     let mut sheet = io::buffer();
     let mut text = [0u8; TEXT];

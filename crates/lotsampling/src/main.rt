@@ -1,32 +1,21 @@
 // lotsampling CONTAINERS KILOGRAMS: prints the number of primary samples for so many containers of so many whole kg each.
 ghost use mathlib.Core.Path.{_≡_};
-ghost use Rattle.rules.specs.Numbers.{samplesAnswer};
 ghost use Rattle.io.specs.Counts.{Counts};
 ghost use Rattle.decimal.specs.Laying.{Laid};
-ghost use Rattle.bench.specs.Saying.{saidOf, saidToTwo};
-ghost use Rattle.bench.specs.Printing.{saidToSampling, samplingPrints};
-use bench::LINE;
-use bench::Said;
-use bench::Two;
-use rules::Samples;
-
-fn said_of(samples: Samples) -> Said
-    ensures { λ r. ⌜ r ≡ saidOf (samplesAnswer samples) ⌝ }
-{
-    match samples {
-        Samples::Number(n) => Said::Value(n),
-        Samples::OutsideTable => Said::Refused(17),
-    }
-}
+ghost use Rattle.program_lines.specs.Saying.{saidToTwo};
+ghost use Rattle.program_lines.specs.Printing.{saidToSampling, samplingPrints};
+use program_lines::LINE;
+use program_lines::Said;
+use program_lines::TwoNumbers;
 
 // What is said to the words.
-fn said_to(words: Two) -> Said
+fn said_to(words: TwoNumbers) -> Said
     ensures { λ r. ⌜ r ≡ saidToTwo saidToSampling words ⌝ }
 {
-    let Two::Numbers(k, c) = words else {
+    let TwoNumbers::Given(k, c) = words else {
         return Said::Usage;
     };
-    said_of(sampling::primary_samples(k, c))
+    program_lines::said_of(sampling::primary_samples(k, c).answered())
 }
 
 // The line to the words, and its length.
@@ -34,13 +23,13 @@ fn answer(arguments: usize, containers: &[u8], kilograms: &[u8], line: &mut [u8;
     ensures { λ r. ⌜ Laid (samplingPrints arguments (now (containers .entry)) (now (kilograms .entry))) (now (line .entry)) (now (line .exit)) r ⌝ }
     ensures { λ r. ⌜ Counts r (now (line .exit)) ⌝ }
 {
-    let said = said_to(bench::two_words(arguments == 3, containers, kilograms));
-    bench::number_line(said, b"usage: lotsampling CONTAINERS KILOGRAMS", line)
+    let said = said_to(program_lines::two_numbers(arguments == 3, containers, kilograms));
+    program_lines::number_line(said, b"usage: lotsampling CONTAINERS KILOGRAMS", line)
 }
 
 fn main() {
-    let mut containers = bench::word_buffer();
-    let mut kilograms = bench::word_buffer();
+    let mut containers = program_lines::word_buffer();
+    let mut kilograms = program_lines::word_buffer();
     let mut line = [0u8; LINE];
     let k = os::arg(1, &mut containers);
     let c = os::arg(2, &mut kilograms);

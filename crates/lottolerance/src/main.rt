@@ -1,43 +1,31 @@
 // lottolerance label LABELLED FOUND, lottolerance pair FIRST SECOND: prints `within` or `out`, by the tables 14G and 14H.
 ghost use mathlib.Core.Path.{_≡_};
-ghost use Rattle.rules.specs.Numbers.{toleranceAnswer};
 ghost use Rattle.io.specs.Counts.{Counts};
 ghost use Rattle.decimal.specs.Laying.{Laid};
-ghost use Rattle.bench.specs.Saying.{saidOf, saidToTwo};
-ghost use Rattle.bench.specs.Printing.{saidToKind, tolerancePrints};
-use bench::LINE;
-use bench::Said;
-use bench::Two;
-use rules::Tolerance;
-
-fn said_of(tolerance: Tolerance) -> Said
-    ensures { λ r. ⌜ r ≡ saidOf (toleranceAnswer tolerance) ⌝ }
-{
-    match tolerance {
-        Tolerance::Within => Said::Value(1),
-        Tolerance::Out => Said::Value(0),
-        Tolerance::OutsideTable => Said::Refused(17),
-    }
-}
+ghost use Rattle.program_lines.specs.Saying.{saidToTwo};
+ghost use Rattle.program_lines.specs.Printing.{saidToKind, tolerancePrints};
+use program_lines::LINE;
+use program_lines::Said;
+use program_lines::TwoNumbers;
 
 // What is said to two numbers.
 fn said_to_kind(kind: &[u8], a: u32, b: u32) -> Said
     ensures { λ r. ⌜ r ≡ saidToKind (now (kind .entry)) a b ⌝ }
 {
     if check::same(kind, b"label") {
-        return said_of(tolerance::label(a, b));
+        return program_lines::said_of(tolerance::label(a, b).answered());
     }
     if check::same(kind, b"pair") {
-        return said_of(tolerance::pair(a, b));
+        return program_lines::said_of(tolerance::pair(a, b).answered());
     }
     Said::Usage
 }
 
 // What is said to the words.
-fn said_to(kind: &[u8], words: Two) -> Said
+fn said_to(kind: &[u8], words: TwoNumbers) -> Said
     ensures { λ r. ⌜ r ≡ saidToTwo (saidToKind (now (kind .entry))) words ⌝ }
 {
-    let Two::Numbers(a, b) = words else {
+    let TwoNumbers::Given(a, b) = words else {
         return Said::Usage;
     };
     said_to_kind(kind, a, b)
@@ -54,8 +42,11 @@ fn answer(
     ensures { λ r. ⌜ Laid (tolerancePrints arguments (now (kind .entry)) (now (first .entry)) (now (second .entry))) (now (line .entry)) (now (line .exit)) r ⌝ }
     ensures { λ r. ⌜ Counts r (now (line .exit)) ⌝ }
 {
-    let said = said_to(kind, bench::two_words(arguments == 4, first, second));
-    bench::verdict_line(
+    let said = said_to(
+        kind,
+        program_lines::two_numbers(arguments == 4, first, second),
+    );
+    program_lines::verdict_line(
         said,
         b"usage: lottolerance label LABELLED FOUND, or lottolerance pair FIRST SECOND",
         b"within",
@@ -65,9 +56,9 @@ fn answer(
 }
 
 fn main() {
-    let mut kind = bench::word_buffer();
-    let mut first = bench::word_buffer();
-    let mut second = bench::word_buffer();
+    let mut kind = program_lines::word_buffer();
+    let mut first = program_lines::word_buffer();
+    let mut second = program_lines::word_buffer();
     let mut line = [0u8; LINE];
     let k = os::arg(1, &mut kind);
     let a = os::arg(2, &mut first);

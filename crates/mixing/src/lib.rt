@@ -1,34 +1,20 @@
 // Which component lots may be mixed (002, 10.3). What is right is said in rules' specs/Mixing.antt.
 ghost use mathlib.Core.Path.{_≡_};
-ghost use Prim.Native.Nat.{max, min};
 ghost use Rattle.rules.specs.Numbers.{mixingAnswer};
 ghost use Rattle.rules.specs.Mixing.{mixingOf, largestOf, smallestOf};
+use rules::FEWEST_MIXED;
+use rules::HIGHEST_X;
+use rules::MOST_MIXED;
 use rules::Mixing;
+use rules::checks;
 
-// How many components there are, at least and at most.
-const FEWEST: usize = 2;
-
-const MOST: usize = 60;
-
-// The highest result.
-const HIGHEST: u32 = 10000;
+// The highest result, as the results are given here.
+const HIGHEST: u32 = HIGHEST_X as u32;
 
 // The largest and the smallest of a list of results.
 struct Extremes {
     largest: u32,
     smallest: u32,
-}
-
-fn larger(a: u32, b: u32) -> u32
-    ensures { λ r. ⌜ r ≡ max a b ⌝ }
-{
-    if a < b { b } else { a }
-}
-
-fn smaller(a: u32, b: u32) -> u32
-    ensures { λ r. ⌜ r ≡ min a b ⌝ }
-{
-    if a < b { a } else { b }
 }
 
 // From the last result to the first, as the definitions put the first result before the rest.
@@ -41,8 +27,8 @@ fn extremes_of(results: &[u32]) -> Extremes
     while 0 < i {
         i -= 1;
         let x = results[i];
-        largest = larger(x, largest);
-        smallest = smaller(x, smallest);
+        largest = checks::larger(x, largest);
+        smallest = checks::smaller(x, smallest);
     }
     Extremes { largest, smallest }
 }
@@ -52,10 +38,10 @@ pub fn mixable(results: &[u32], tolerated: u32) -> Mixing
     ensures { λ r. ⌜ mixingAnswer r ≡ mixingOf (now (results .entry)) tolerated ⌝ }
 {
     let components = results.len();
-    if components < FEWEST {
+    if components < FEWEST_MIXED {
         return Mixing::OutsideTable;
     }
-    if MOST < components {
+    if MOST_MIXED < components {
         return Mixing::OutsideTable;
     }
     let found = extremes_of(results);

@@ -1,4 +1,3 @@
-pub mod Ends
-pub mod StoredFigures
-pub mod ReportTexts
+pub mod FigureLaws
+pub mod Sound
 pub mod Reported

@@ -1,7 +1,9 @@
 pub mod Tests
-pub mod PlaceLaws
+pub mod ContentLaws
+pub mod CountLaws
 pub mod CardLaws
 pub mod LedgerLaws
+pub mod Taken
 pub mod Marked
 pub mod RoundingLaws
 pub mod TextLaws

@@ -5,20 +5,21 @@ use mathlib.Core.List.{List, [], _∷_}
 use Prim.Native.Nat.{ℕ}
 use Prim.Native.String.{String}
 use Rattle.rules.specs.Text.{text, decimals, decimal, lastDigits, pointed}
-use Rattle.rules.specs.Numbers.{Answered, gives}
-use Rattle.rules.specs.Places.{total, largest, smallest}
+use Rattle.rules.specs.Numbers.{gives}
+use Rattle.rules.specs.Contents.{total, largest, smallest}
 use Rattle.rules.specs.Cards.{rowsGood, criticalsGood}
 use Rattle.rules.specs.Rounding.{nearestOf}
 use Rattle.rules.specs.Attributes.{isVoid, meanScale}
 use Rattle.rules.specs.Figures.{meanOf, ratio, reportedH, exceeds, toleratedUpto}
-use Rattle.rules.specs.Report.{countLine, meanLine, verdictWord, limitText, against, hLine, rLine, lotWord, lotLine, fiveLines}
+use Rattle.rules.specs.Report.{findingsOf, countLine, meanLine, verdictWord, limitText, valueLine, lotWord, lotLine, findingsText}
 use Rattle.rules.specs.Lines.{cutFrom}
-use Rattle.rules.specs.Fields.{allDigits, valueOf, more, number, fieldOf}
+use Rattle.rules.specs.Fields.{allDigits, valueOf, numberBehind, number, fieldOf}
 use Rattle.rules.specs.Frames.{lotFrame, cardFrame, criticalFrame, rangeFrame, resultFrame, endFrame, kindFrame, frameOf}
 use Rattle.rules.specs.Reading.{lotStep, cardStep, criticalStep, rangeStep, resultStep, endStep, readFrom, readOf}
 use Rattle.rules.specs.Printing.{refusedLine, printedFor}
 use Rattle.rules.specs.Sampling.{samplingOf, samplesOf, table2A, table2B, unitsOf, raised}
 use Rattle.rules.specs.Tolerance.{labelOf, pairOf, differenceFor}
+use Rattle.rules.specs.declared.Answered.{Answered}
 
 -- a sheet, and what lotreport prints for it
 pub record Case : Type 0 where
@@ -74,7 +75,7 @@ tabled [] = []
 tabled (c ∷ cs) = text (c .printed) ∷ tabled cs
 
 pub marked-sheets : defined marked ≡ tabled marked
-unfolding printedFor readOf readFrom cutFrom frameOf kindFrame lotFrame cardFrame criticalFrame rangeFrame resultFrame endFrame allDigits fieldOf number more valueOf lotStep cardStep criticalStep rangeStep resultStep endStep total largest smallest rowsGood criticalsGood refusedLine fiveLines countLine meanLine hLine rLine lotLine lotWord against limitText verdictWord pointed decimal decimals lastDigits meanOf meanScale isVoid ratio reportedH exceeds toleratedUpto nearestOf
+unfolding printedFor readOf readFrom cutFrom frameOf kindFrame lotFrame cardFrame criticalFrame rangeFrame resultFrame endFrame allDigits fieldOf number numberBehind valueOf lotStep cardStep criticalStep rangeStep resultStep endStep total largest smallest rowsGood criticalsGood refusedLine findingsText findingsOf countLine meanLine valueLine lotLine lotWord limitText verdictWord pointed decimal decimals lastDigits meanOf meanScale isVoid ratio reportedH exceeds toleratedUpto nearestOf
 marked-sheets = refl
 
 -- a call beside the tally: what the definition answers, and what it should

@@ -8,13 +8,15 @@ use native.Mathlib.Decide.{decLe}
 use native.Mathlib.Omega.{arith}
 use lib.Dec.{ltb}
 use borrow.Author.Tests.{ltb-false}
-use Rattle.rules.specs.Limits.{highestX}
-use Rattle.rules.specs.Places.{Place, Places, free, holds, total, one, value, square, largest}
+use Rattle.rules.specs.Limits.{highestX, leastReported}
+use Rattle.rules.specs.Contents.{Content, Contents, free, holds, total, one, value, square, largest}
 use Rattle.rules.specs.Attributes.{isVoid}
-use Rattle.rules.specs.Figures.{Figures, figuresOf, deviation, ofPercentages, ofCounts, ratio}
+use Rattle.rules.specs.Figures.{figuresOf, deviation, ofPercentages, ofCounts, ratio}
+use Rattle.rules.specs.declared.Figures.{Figures}
 use Rattle.rules.specs.declared.Attribute.{Attribute}
 use Rattle.rules.specs.declared.Attribute.the-variants.{Purity, Germination, Count}
-use Rattle.rules.specs.declared.Card.{Card}
+use Rattle.rules.specs.Spread.{Spread, HeadWithin}
+use Rattle.rules.specs.declared.Head.{Head}
 
 -- 2ab ≤ a² + b²
 two : (a b : ℕ) → 2 * (a * b) ≤ a * a + b * b
@@ -27,53 +29,47 @@ two a b = by (decLe a b)
     by (yes p) = let e : b ≡ a + (b - a) = omega arith in rw e (up a (b - a))
     by (no p) = let e : a ≡ b + (a - b) = omega arith in rw e (omega (arith, up b (a - b)))
 
-cross-more : (n s q x : ℕ) (p : Place) → 2 * (s * x) ≤ n * (x * x) + q → 2 * ((s + value p) * x) ≤ (n + one p) * (x * x) + (q + square p)
+cross-more : (n s q x : ℕ) (p : Content) → 2 * (s * x) ≤ n * (x * x) + q → 2 * ((s + value p) * x) ≤ (n + one p) * (x * x) + (q + square p)
 cross-more n s q x free h = omega (arith, h)
 cross-more n s q x (holds y) h = omega (arith, h, two y x)
 
-cross : (n : ℕ) (f : Places) (x : ℕ) → 2 * (total value n f * x) ≤ total one n f * (x * x) + total square n f
+cross : (n : ℕ) (f : Contents) (x : ℕ) → 2 * (total value n f * x) ≤ total one n f * (x * x) + total square n f
 unfolding total
 cross zero f x = omega arith
 cross (suc n) f x = cross-more (total one n f) (total value n f) (total square n f) x (f (suc n)) (cross n f x)
 
-spread-more : (n s q : ℕ) (p : Place) → ((x : ℕ) → 2 * (s * x) ≤ n * (x * x) + q) → s * s ≤ n * q → (s + value p) * (s + value p) ≤ (n + one p) * (q + square p)
+spread-more : (n s q : ℕ) (p : Content) → ((x : ℕ) → 2 * (s * x) ≤ n * (x * x) + q) → s * s ≤ n * q → (s + value p) * (s + value p) ≤ (n + one p) * (q + square p)
 spread-more n s q free c h = omega (arith, h)
 spread-more n s q (holds y) c h = omega (arith, h, c y)
 
 -- S² is at most N·Q
-pub spread : (n : ℕ) (f : Places) → total value n f * total value n f ≤ total one n f * total square n f
+pub spread : (n : ℕ) (f : Contents) → total value n f * total value n f ≤ total one n f * total square n f
 unfolding total
 spread zero f = omega arith
 spread (suc n) f = spread-more (total one n f) (total value n f) (total square n f) (f (suc n)) (cross n f) (spread n f)
 
-squares-more : (m s q : ℕ) (p : Place) → value p ≤ m → q ≤ m * s → q + square p ≤ m * (s + value p)
+squares-more : (m s q : ℕ) (p : Content) → value p ≤ m → q ≤ m * s → q + square p ≤ m * (s + value p)
 squares-more m s q free g h = omega (arith, h)
 squares-more m s q (holds y) g h = omega (arith, h, mul-le-mul-right y g)
 
 -- where no result is above m, Q is at most m·S
-pub squares-le : (m n : ℕ) (f : Places) → largest n f ≤ m → total square n f ≤ m * total value n f
+pub squares-le : (m n : ℕ) (f : Contents) → largest n f ≤ m → total square n f ≤ m * total value n f
 unfolding total largest
 squares-le m zero f h = omega arith
 squares-le m (suc n) f h = squares-more m (total value n f) (total square n f) (f (suc n)) (omega arith) (squares-le m n f (omega arith))
 
-sum-more : (m n s : ℕ) (p : Place) → value p ≤ m → s ≤ m * n → s + value p ≤ m * (n + one p)
+sum-more : (m n s : ℕ) (p : Content) → value p ≤ m → s ≤ m * n → s + value p ≤ m * (n + one p)
 sum-more m n s free g h = omega (arith, h)
 sum-more m n s (holds y) g h = omega (arith, h)
 
 -- and S at most m·N
-pub sum-le : (m n : ℕ) (f : Places) → largest n f ≤ m → total value n f ≤ m * total one n f
+pub sum-le : (m n : ℕ) (f : Contents) → largest n f ≤ m → total value n f ≤ m * total one n f
 unfolding total largest
 sum-le m zero f h = omega arith
 sum-le m (suc n) f h = sum-more m (total one n f) (total value n f) (f (suc n)) (omega arith) (sum-le m n f (omega arith))
 
 -- ---- of figures
--- what holds of the figures of results that are at most m
-pub record Spread (m : ℕ) (f : Figures) : Type 0 where
-  pub low : f .sum * f .sum ≤ f .count * f .squares
-  pub squares-high : f .squares ≤ m * f .sum
-  pub sum-high : f .sum ≤ m * f .count
-
-pub spread-of : (m n : ℕ) (f : Places) → largest n f ≤ m → Spread m (figuresOf n f)
+pub spread-of : (m n : ℕ) (f : Contents) → largest n f ≤ m → Spread m (figuresOf n f)
 spread-of m n f h = record { low = spread n f; squares-high = squares-le m n f h; sum-high = sum-le m n f h }
 
 -- D is at most S·(m·N - S)
@@ -91,21 +87,21 @@ within lowest highest n s e = by (ltb (highest * n) s) (ltb s (lowest * n)) refl
     by false true p q e = absurd (true≢false e)
     by true b p q e = absurd (true≢false e)
 
-percentages-positive : (c : Card) (f : Figures) → 2 ≤ f .count → 1 ≤ c .factor → 0 < f .sum → f .sum < highestX * f .count → 0 < ofPercentages c f .under
-percentages-positive c f n k p q =
+percentages-positive : (h : Head) (f : Figures) → 2 ≤ f .count → 1 ≤ h .factor → 0 < f .sum → f .sum < highestX * f .count → 0 < ofPercentages h f .under
+percentages-positive h f n k p q =
     let a : 0 < f .count - 1 = omega arith in
     let b : 0 < highestX * f .count - f .sum = omega arith in
     mul-pos (mul-pos (mul-pos a p) b) k
 
-pub under-positive : (a : Attribute) (c : Card) (f : Figures) → isVoid a (f .count) (f .sum) ≡ false → 2 ≤ f .count → 1 ≤ c .factor → 0 < ratio a c f .under
+pub under-positive : (a : Attribute) (h : Head) (f : Figures) → isVoid a (f .count) (f .sum) ≡ false → 2 ≤ f .count → 1 ≤ h .factor → 0 < ratio a h f .under
 unfolding isVoid ratio
-under-positive Purity c f e n k =
+under-positive Purity h f e n k =
     let w = within 20 9980 (f .count) (f .sum) e in
-    percentages-positive c f n k (omega arith) (omega arith)
-under-positive Germination c f e n k =
+    percentages-positive h f n k (omega arith) (omega arith)
+under-positive Germination h f e n k =
     let w = within 100 9900 (f .count) (f .sum) e in
-    percentages-positive c f n k (omega arith) (omega arith)
-under-positive Count c f e n k =
+    percentages-positive h f n k (omega arith) (omega arith)
+under-positive Count h f e n k =
     let w : 2 * f .count ≤ f .sum = ltb-false (f .sum) (2 * f .count) e in
     let a : 0 < f .count - 1 = omega arith in
     let b : 0 < f .sum = omega arith in
@@ -117,28 +113,23 @@ highestH Purity = 1250
 highestH Germination = 1250
 highestH Count = 12500
 
--- what a good card has
-pub record Head (c : Card) : Type 0 where
-  pub seeds : c .seeds ≤ 1000
-  pub factor : 10 ≤ c .factor
-
-percentages-le : (c : Card) (f : Figures) → Spread highestX f → 5 ≤ f .count → Head c → ofPercentages c f .over ≤ 1250 * ofPercentages c f .under
-percentages-le c f s n h =
+percentages-le : (h : Head) (f : Figures) → Spread highestX f → leastReported ≤ f .count → HeadWithin h → ofPercentages h f .over ≤ 1250 * ofPercentages h f .under
+percentages-le h f s n w =
     let p = f .sum * (highestX * f .count - f .sum) in
     let k = f .count - 1 in
-    let u : 10 * c .seeds * f .count ≤ 1250 * (k * c .factor) =
-    let a = mul-le-mul-right (f .count) (h .seeds) in let b = mul-le-mul-left k (h .factor) in omega arith in
+    let u : 10 * h .seeds * f .count ≤ 1250 * (k * h .factor) =
+    let a = mul-le-mul-right (f .count) (w .seeds) in let b = mul-le-mul-left k (w .factor) in omega arith in
     omega (arith, mul-le-mul u (deviation-le highestX f s))
 
-counts-le : (c : Card) (f : Figures) → Spread highestX f → 5 ≤ f .count → Head c → ofCounts c f .over ≤ 12500 * ofCounts c f .under
-counts-le c f s n h =
+counts-le : (h : Head) (f : Figures) → Spread highestX f → leastReported ≤ f .count → HeadWithin h → ofCounts h f .over ≤ 12500 * ofCounts h f .under
+counts-le h f s n w =
     let k = f .count - 1 in
-    let u : 100000 * f .count ≤ 12500 * (k * c .factor) = let b = mul-le-mul-left k (h .factor) in omega arith in
+    let u : 100000 * f .count ≤ 12500 * (k * h .factor) = let b = mul-le-mul-left k (w .factor) in omega arith in
     let v : f .sum * (highestX * f .count - f .sum) ≤ f .sum * (highestX * f .count) = mul-le-mul-left (f .sum) (omega arith) in
     omega (arith, mul-le-mul-left (f .sum) u, v, deviation-le highestX f s)
 
-pub ratio-le : (a : Attribute) (c : Card) (f : Figures) → Spread highestX f → 5 ≤ f .count → Head c → ratio a c f .over ≤ highestH a * ratio a c f .under
+pub ratio-le : (a : Attribute) (h : Head) (f : Figures) → Spread highestX f → leastReported ≤ f .count → HeadWithin h → ratio a h f .over ≤ highestH a * ratio a h f .under
 unfolding ratio
-ratio-le Purity c f s n h = percentages-le c f s n h
-ratio-le Germination c f s n h = percentages-le c f s n h
-ratio-le Count c f s n h = counts-le c f s n h
+ratio-le Purity h f s n w = percentages-le h f s n w
+ratio-le Germination h f s n w = percentages-le h f s n w
+ratio-le Count h f s n w = counts-le h f s n w

@@ -5,6 +5,7 @@ use Prim.Native.Nat.{ℕ}
 use lib.Dec.{eqb, leb}
 use lib.ListN.{length}
 use Rattle.rules.specs.Choice.{pick}
+use Rattle.rules.specs.Limits.{lotDigits, cardDigits, criticalDigits, rangeDigits, resultDigits, endDigits}
 use Rattle.rules.specs.Fields.{allDigits, fieldOf}
 use Rattle.rules.specs.declared.Frame.{Frame}
 use Rattle.rules.specs.declared.Frame.the-variants.{Bad, Lot, Card, Critical, Range, Result, End}
@@ -15,27 +16,27 @@ sized d n f = pick (eqb (length d) n) f Bad
 
 -- 01 lot: attribute (2), containers (4)
 unfoldable pub lotFrame : List ℕ → Frame
-lotFrame d = sized d 8 (Lot (fieldOf d 2 2) (fieldOf d 4 4))
+lotFrame d = sized d lotDigits (Lot (fieldOf d 2 2) (fieldOf d 4 4))
 
 -- 02 card: F (2), G (2), n (4)
 unfoldable pub cardFrame : List ℕ → Frame
-cardFrame d = sized d 10 (Card (fieldOf d 2 2) (fieldOf d 4 2) (fieldOf d 6 4))
+cardFrame d = sized d cardDigits (Card (fieldOf d 2 2) (fieldOf d 4 2) (fieldOf d 6 4))
 
 -- 03 critical: N (2), critical H in hundredths (4)
 unfoldable pub criticalFrame : List ℕ → Frame
-criticalFrame d = sized d 8 (Critical (fieldOf d 2 2) (fieldOf d 4 4))
+criticalFrame d = sized d criticalDigits (Critical (fieldOf d 2 2) (fieldOf d 4 4))
 
 -- 04 range: lowest N (2), highest N (2), mean bound (4), tolerated R (4)
 unfoldable pub rangeFrame : List ℕ → Frame
-rangeFrame d = sized d 14 (Range (fieldOf d 2 2) (fieldOf d 4 2) (fieldOf d 6 4) (fieldOf d 10 4))
+rangeFrame d = sized d rangeDigits (Range (fieldOf d 2 2) (fieldOf d 4 2) (fieldOf d 6 4) (fieldOf d 10 4))
 
 -- 05 result: container (4), X (4)
 unfoldable pub resultFrame : List ℕ → Frame
-resultFrame d = sized d 10 (Result (fieldOf d 2 4) (fieldOf d 6 4))
+resultFrame d = sized d resultDigits (Result (fieldOf d 2 4) (fieldOf d 6 4))
 
 -- 06 end: number of 05 frames (2)
 unfoldable pub endFrame : List ℕ → Frame
-endFrame d = sized d 4 (End (fieldOf d 2 2))
+endFrame d = sized d endDigits (End (fieldOf d 2 2))
 
 -- by the kind k
 unfoldable pub kindFrame : ℕ → List ℕ → Frame

@@ -1,20 +1,30 @@
+-- Every definition, in the order of document 01.
+
+-- what all of them use: a choice by a test, the limits, the numbers of answers, texts as bytes
 pub mod Choice
 pub mod Limits
 pub mod Numbers
 pub mod Text
-pub mod Places
+-- the sheet: its lines, their fields and frames, the stages that they lead through
+pub mod Fields
+pub mod Lines
+pub mod Frames
+pub mod Stages
+-- the tally: lot and card, the map from container to X, the ledger and its four steps
 pub mod Cards
+pub mod Contents
 pub mod Ledger
+-- H, R and the report: rounding, what each attribute carries, the figures and verdicts, what bounds them, the five lines
 pub mod Rounding
 pub mod Attributes
 pub mod Figures
+pub mod Spread
 pub mod Report
-pub mod Lines
-pub mod Fields
-pub mod Frames
+-- a sheet read, written, and what lotreport prints for it
 pub mod Reading
 pub mod Writing
 pub mod Printing
+-- beside the tally: primary samples, tables 14G and 14H, mixing
 pub mod Sampling
 pub mod Tolerance
 pub mod Mixing

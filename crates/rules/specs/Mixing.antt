@@ -4,9 +4,10 @@ use mathlib.Core.List.{List, [], _∷_}
 use Prim.Native.Nat.{ℕ, _-_, max, min}
 use lib.Dec.{leb}
 use lib.ListN.{length}
-use Rattle.rules.specs.Choice.{pick}
-use Rattle.rules.specs.Limits.{highestX}
-use Rattle.rules.specs.Numbers.{Answered, gives, refuses}
+use Rattle.rules.specs.Choice.{pick, unless}
+use Rattle.rules.specs.Limits.{highestX, fewestMixed, mostMixed}
+use Rattle.rules.specs.Numbers.{gives, refuses}
+use Rattle.rules.specs.declared.Answered.{Answered}
 
 -- the largest and the smallest of the results; of none, 0 and the highest X
 unfoldable pub largestOf : List ℕ → ℕ
@@ -17,11 +18,9 @@ unfoldable pub smallestOf : List ℕ → ℕ
 smallestOf [] = highestX
 smallestOf (x ∷ xs) = min x (smallestOf xs)
 
--- 2 to 60 components; outside the table, then result too high, then the range
+-- outside the table, result too high, and then the range against the tolerated one
 abbrev pub mixingOf : List ℕ → ℕ → Answered
 mixingOf xs tolerated =
-    pick (leb 2 (length xs) && leb (length xs) 60)
-    (pick (leb (largestOf xs) highestX)
-    (gives (pick (leb (largestOf xs - smallestOf xs) tolerated) 1 0))
-    (refuses 7))
-    (refuses 17)
+    unless (leb fewestMixed (length xs) && leb (length xs) mostMixed) (refuses 17)
+    (unless (leb (largestOf xs) highestX) (refuses 7)
+    (gives (pick (leb (largestOf xs - smallestOf xs) tolerated) 1 0)))

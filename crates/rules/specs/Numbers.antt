@@ -3,6 +3,8 @@ use Prim.Native.Nat.{ℕ}
 use mathlib.Core.List.{List}
 use Rattle.rules.specs.declared.Refusal.{Refusal}
 use Rattle.rules.specs.declared.Refusal.the-variants.{Accepted, BadLine, OutOfTurn, BadLot, BadCard, CardFull, NoSuchContainer, ResultTooHigh, AlreadyHeld, Full, NotHeld, OtherLot, SharedContainer, TooManyTogether, CountWrong, TooFew, BufferShort, OutsideTable}
+use Rattle.rules.specs.declared.Answered.{Answered}
+use Rattle.rules.specs.declared.TextSize.{TextSize}
 use Rattle.rules.specs.declared.Reported.{Reported}
 use Rattle.rules.specs.declared.Reported.the-variants as reported
 use Rattle.rules.specs.declared.Written.{Written}
@@ -37,10 +39,6 @@ numberOf BufferShort = 16
 numberOf OutsideTable = 17
 
 -- ---- calls that answer a number: the refusal's number, or 0 and the value
-pub record Answered : Type 0 where
-  pub number : ℕ
-  pub value : ℕ
-
 -- a value, and a refusal, which has none
 abbrev pub gives : ℕ → Answered
 gives v = record { number = 0; value = v }
@@ -65,28 +63,48 @@ mixingAnswer mixing.NotMixable = gives 0
 mixingAnswer mixing.ResultTooHigh = refuses 7
 mixingAnswer mixing.OutsideTable = refuses 17
 
--- ---- calls that write: the refusal's number, or 0 and the text's length; and the whole buffer afterwards
-pub record Told : Type 0 where
+-- ---- calls that write: the refusal's number, or 0 and the text's length
+abbrev pub sizeIs : ℕ → TextSize
+sizeIs n = record { number = 0; size = n }
+
+-- a refusal has no text
+abbrev pub noText : ℕ → TextSize
+noText e = record { number = e; size = 0 }
+
+abbrev pub reportedSize : Reported → TextSize
+reportedSize (reported.Length n) = sizeIs n
+reportedSize reported.TooFew = noText 15
+reportedSize reported.BufferShort = noText 16
+
+abbrev pub writtenSize : Written → TextSize
+writtenSize (written.Length n) = sizeIs n
+writtenSize written.BadLot = noText 3
+writtenSize written.BufferShort = noText 16
+
+abbrev pub printedSize : Printed → TextSize
+printedSize (printed.Length n) = sizeIs n
+printedSize printed.BufferShort = noText 16
+
+-- ---- the same with the whole buffer afterwards
+pub record TextAnswer : Type 0 where
   pub number : ℕ
   pub size : ℕ
   pub bytes : List ℕ
 
-abbrev pub wrote : ℕ → List ℕ → Told
-wrote n b = record { number = 0; size = n; bytes = b }
+abbrev pub withBytes : TextSize → List ℕ → TextAnswer
+withBytes s b = record { number = s .number; size = s .size; bytes = b }
 
-abbrev pub leaves : ℕ → List ℕ → Told
-leaves e b = record { number = e; size = 0; bytes = b }
+abbrev pub wrote : ℕ → List ℕ → TextAnswer
+wrote n b = withBytes (sizeIs n) b
 
-abbrev pub reportedAnswer : Reported → List ℕ → Told
-reportedAnswer (reported.Length n) b = wrote n b
-reportedAnswer reported.TooFew b = leaves 15 b
-reportedAnswer reported.BufferShort b = leaves 16 b
+abbrev pub refusesText : ℕ → List ℕ → TextAnswer
+refusesText e b = withBytes (noText e) b
 
-abbrev pub writtenAnswer : Written → List ℕ → Told
-writtenAnswer (written.Length n) b = wrote n b
-writtenAnswer written.BadLot b = leaves 3 b
-writtenAnswer written.BufferShort b = leaves 16 b
+abbrev pub reportedAnswer : Reported → List ℕ → TextAnswer
+reportedAnswer r b = withBytes (reportedSize r) b
 
-abbrev pub printedAnswer : Printed → List ℕ → Told
-printedAnswer (printed.Length n) b = wrote n b
-printedAnswer printed.BufferShort b = leaves 16 b
+abbrev pub writtenAnswer : Written → List ℕ → TextAnswer
+writtenAnswer r b = withBytes (writtenSize r) b
+
+abbrev pub printedAnswer : Printed → List ℕ → TextAnswer
+printedAnswer r b = withBytes (printedSize r) b

@@ -4,7 +4,7 @@ use Prim.Native.Nat.{ℕ}
 use lib.Dec.{ltb}
 use Rattle.rules.specs.Choice.{pick}
 use Rattle.rules.specs.Limits.{leastReported}
-use Rattle.rules.specs.Numbers.{Told}
+use Rattle.rules.specs.Numbers.{TextAnswer}
 use Rattle.rules.specs.Text.{text, decimal, laidIn}
 use Rattle.rules.specs.Ledger.{held}
 use Rattle.rules.specs.Report.{reportOf}
@@ -23,5 +23,5 @@ unfoldable pub printedFor : List ℕ → List ℕ
 printedFor sheet = printed (readOf sheet)
 
 -- the same into a buffer
-abbrev pub printOn : List ℕ → List ℕ → Told
+abbrev pub printOn : List ℕ → List ℕ → TextAnswer
 printOn sheet d = laidIn (printedFor sheet) d

@@ -4,7 +4,8 @@ use Prim.Native.Nat.{ℕ, _+_, _-_, _*_, _/_, max}
 use lib.Dec.{leb, ltb}
 use Rattle.rules.specs.Choice.{pick}
 use Rattle.rules.specs.Limits.{widest}
-use Rattle.rules.specs.Numbers.{Answered, gives, refuses}
+use Rattle.rules.specs.Numbers.{gives, refuses}
+use Rattle.rules.specs.declared.Answered.{Answered}
 
 -- the parts of m that n is divided into, a begun one counted
 abbrev pub begunParts : ℕ → ℕ → ℕ

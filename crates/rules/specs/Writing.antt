@@ -1,15 +1,16 @@
 -- The sheet of a ledger: the card's frames in their order, results in ascending container order.
 use mathlib.Core.List.{List, [], _++_}
-use Prim.Native.Nat.{ℕ, zero, suc, _+_, _-_}
+use Prim.Native.Nat.{ℕ, zero, suc, _-_}
 use lib.Dec.{eqb}
 use lib.ListN.{getD}
 use Rattle.rules.specs.Choice.{pick}
 use Rattle.rules.specs.Limits.{criticals}
-use Rattle.rules.specs.Numbers.{Told, leaves}
+use Rattle.rules.specs.Numbers.{TextAnswer, refusesText}
 use Rattle.rules.specs.Text.{byte, laidIn}
 use Rattle.rules.specs.Fields.{digits}
-use Rattle.rules.specs.Places.{Place, Places, free, holds}
+use Rattle.rules.specs.Contents.{Content, Contents, free, holds}
 use Rattle.rules.specs.Ledger.{Ledger, held, containers}
+use Rattle.rules.specs.declared.Head.{Head}
 use Rattle.rules.specs.declared.Card.{Card}
 
 -- a line's last field, of k digits, and the end byte
@@ -19,8 +20,8 @@ ending k n = digits k n ++ byte 10
 unfoldable pub lotLine : ℕ → ℕ → List ℕ
 lotLine a n = digits 2 1 ++ digits 2 a ++ ending 4 n
 
-unfoldable pub cardLine : ℕ → ℕ → ℕ → List ℕ
-cardLine f g n = digits 2 2 ++ digits 2 f ++ digits 2 g ++ ending 4 n
+unfoldable pub cardLine : Head → List ℕ
+cardLine h = digits 2 2 ++ digits 2 (h .factor) ++ digits 2 (h .offset) ++ ending 4 (h .seeds)
 
 unfoldable pub criticalLine : ℕ → ℕ → List ℕ
 criticalLine k v = digits 2 3 ++ digits 2 k ++ ending 4 v
@@ -48,12 +49,12 @@ unfoldable pub rangeLines : Card → ℕ → List ℕ
 rangeLines c zero = []
 rangeLines c (suc n) = rangeLines c n ++ rangeLine (getD (c .lowest) n 0) (getD (c .highest) n 0) (getD (c .bound) n 0) (getD (c .tolerated) n 0)
 
-abbrev pub placeLine : ℕ → Place → List ℕ
+abbrev pub placeLine : ℕ → Content → List ℕ
 placeLine k free = []
 placeLine k (holds x) = resultLine k x
 
 -- the results of containers 1 to n, in ascending order
-unfoldable pub resultLines : Places → ℕ → List ℕ
+unfoldable pub resultLines : Contents → ℕ → List ℕ
 resultLines f zero = []
 resultLines f (suc n) = resultLines f n ++ placeLine (suc n) (f (suc n))
 
@@ -61,12 +62,12 @@ resultLines f (suc n) = resultLines f n ++ placeLine (suc n) (f (suc n))
 unfoldable pub sheetOf : Ledger → List ℕ
 sheetOf g =
     lotLine (g .lot .attribute) (containers g)
-    ++ cardLine (g .card .factor) (g .card .offset) (g .card .seeds)
+    ++ cardLine (g .card .head)
     ++ criticalLines (g .card .critical) criticals
     ++ rangeLines (g .card) (g .card .rows)
-    ++ resultLines (g .places) (containers g)
+    ++ resultLines (g .contents) (containers g)
     ++ endLine (held g)
 
 -- the sheet writer: bad lot where none was opened, buffer short, or the sheet
-abbrev pub writeOn : Ledger → List ℕ → Told
-writeOn g d = pick (eqb (containers g) 0) (leaves 3 d) (laidIn (sheetOf g) d)
+abbrev pub writeOn : Ledger → List ℕ → TextAnswer
+writeOn g d = pick (eqb (containers g) 0) (refusesText 3 d) (laidIn (sheetOf g) d)

@@ -1,11 +1,10 @@
-// The plain data of a lot's results: attribute, lot, card, the frames of a sheet, the numbered refusals, and the answers of
-// the calls. What each means is said in specs/.
-ghost use mathlib.Core.Path.{_≡_};
-ghost use Prim.Native.Nat.{_≤_, _<_};
-ghost use Rattle.rules.specs.Numbers.{numberOf};
-ghost use Rattle.rules.specs.Attributes.{attributeOf, isVoid, placesOfX, meanPlaces, meanScale};
+// The plain data of a lot's results: attribute, lot, card, the frames of a sheet, the numbered refusals, what a report finds, and the
+// answers of the calls. What each means is said in specs/.
 
+pub mod answers;
+pub mod attributes;
 pub mod checks;
+pub mod stages;
 
 // The most results that a tally holds, that a join may come to, and that N may be in a frame.
 pub const MOST_HELD: usize = 60;
@@ -16,11 +15,41 @@ pub const LEAST_REPORTED: usize = 5;
 // The highest result, and the highest bound of a range row.
 pub const HIGHEST_X: u16 = 10000;
 
-// Places for critical values: one for each N from 0 on.
-pub const CRITICALS: usize = 61;
+// Places for critical values: one for each N from 0 to the most.
+pub const CRITICALS: usize = MOST_HELD + 1;
 
 // The most range rows of a card.
 pub const MOST_ROWS: usize = 96;
+
+// F, G and n of a good card: F from the least to the most, G and n up to these.
+pub const LEAST_FACTOR: u16 = 10;
+
+pub const MOST_FACTOR: u16 = 50;
+
+pub const MOST_OFFSET: u16 = 50;
+
+pub const MOST_SEEDS: u16 = 1000;
+
+// How many component lots may be mixed, at least and at most.
+pub const FEWEST_MIXED: usize = 2;
+
+pub const MOST_MIXED: usize = 60;
+
+// The largest number of four hexadecimal digits.
+pub const WIDEST: u32 = 65535;
+
+// The digits of each frame, its kind's two included.
+pub const LOT_DIGITS: usize = 8;
+
+pub const CARD_DIGITS: usize = 10;
+
+pub const CRITICAL_DIGITS: usize = 8;
+
+pub const RANGE_DIGITS: usize = 14;
+
+pub const RESULT_DIGITS: usize = 10;
+
+pub const END_DIGITS: usize = 4;
 
 // What was tested.
 pub enum Attribute {
@@ -29,93 +58,24 @@ pub enum Attribute {
     Count,
 }
 
-// Each attribute carries its own limits and places. Limits are in units of X: hundredths of a percent, or whole seeds.
-impl Attribute {
-    pub const PURITY_LOWEST: u64 = 20;
-
-    pub const PURITY_HIGHEST: u64 = 9980;
-
-    pub const GERMINATION_LOWEST: u64 = 100;
-
-    pub const GERMINATION_HIGHEST: u64 = 9900;
-
-    pub const COUNT_LOWEST: u64 = 2;
-
-    // The attribute of a number: 00 purity, 01 germination, 02 count.
-    pub fn of(number: u16) -> Attribute
-        ensures { λ r. ⌜ r ≡ attributeOf number ⌝ }
-    {
-        if number == 0 {
-            return Attribute::Purity;
-        }
-        if number == 1 {
-            return Attribute::Germination;
-        }
-        Attribute::Count
-    }
-
-    // Whether the mean of n results with the sum s is beyond the attribute's limits.
-    pub fn is_void(self, n: u16, s: u32) -> bool
-        ensures { λ r. ⌜ r ≡ isVoid self n s ⌝ }
-    {
-        let n = n as u64;
-        let s = s as u64;
-        match self {
-            Attribute::Purity => (Self::PURITY_HIGHEST * n < s) | (s < Self::PURITY_LOWEST * n),
-            Attribute::Germination => {
-                (Self::GERMINATION_HIGHEST * n < s) | (s < Self::GERMINATION_LOWEST * n)
-            }
-            Attribute::Count => s < Self::COUNT_LOWEST * n,
-        }
-    }
-
-    // The decimal places of X and of R.
-    pub fn places(self) -> usize
-        ensures { λ r. ⌜ (r ≡ placesOfX self) × (r ≤ 2) ⌝ }
-    {
-        match self {
-            Attribute::Purity => 2,
-            Attribute::Germination => 2,
-            Attribute::Count => 0,
-        }
-    }
-
-    // The decimal places of the mean of n results.
-    pub fn mean_places(self, n: u16) -> usize
-        ensures { λ r. ⌜ (r ≡ meanPlaces self n) × (r ≤ 3) ⌝ }
-    {
-        match self {
-            Attribute::Purity => if 10 <= n { 3 } else { 2 },
-            Attribute::Germination => if 10 <= n { 3 } else { 2 },
-            Attribute::Count => if 10 <= n { 2 } else { 1 },
-        }
-    }
-
-    // How many units of the mean's last place make one unit of X.
-    pub fn mean_scale(self, n: u16) -> u64
-        ensures { λ r. ⌜ (r ≡ meanScale self n) × (r ≤ 100) ⌝ }
-    {
-        match self {
-            Attribute::Purity => if 10 <= n { 10 } else { 1 },
-            Attribute::Germination => if 10 <= n { 10 } else { 1 },
-            Attribute::Count => if 10 <= n { 100 } else { 10 },
-        }
-    }
-}
-
 // A lot: its attribute's number (00 purity, 01 germination, 02 count) and N0, how many containers it has.
 pub struct Lot {
     pub attribute: u16,
     pub containers: u16,
 }
 
-// A card (document 01's term): the numbers that a lot is judged by. factor is F, offset is G, seeds is n.
-// critical has at N one more than the critical H for N results, and 0 where there is none.
-// The range rows fill four lists; places past the last row count for nothing.
-pub struct Card {
+// The head of a card: factor is F, offset is G, seeds is n.
+pub struct Head {
     pub factor: u16,
     pub offset: u16,
     pub seeds: u16,
+}
+
+// A card (document 01's term): the numbers that a lot is judged by. critical has at N one more than the critical H for N results, and
+// 0 where there is none.
+// The range rows fill four lists; places past the last row count for nothing.
+pub struct Card {
+    pub head: Head,
     pub critical: [u32; CRITICALS],
     pub rows: usize,
     pub lowest: [u16; MOST_ROWS],
@@ -146,32 +106,15 @@ pub enum Refusal {
     OutsideTable,
 }
 
-impl Refusal {
-    // The number that document 01 gives it.
-    pub fn number(self) -> u32
-        ensures { λ n. ⌜ n ≡ numberOf self ⌝ }
-    {
-        match self {
-            Refusal::Accepted => 0,
-            Refusal::BadLine => 1,
-            Refusal::OutOfTurn => 2,
-            Refusal::BadLot => 3,
-            Refusal::BadCard => 4,
-            Refusal::CardFull => 5,
-            Refusal::NoSuchContainer => 6,
-            Refusal::ResultTooHigh => 7,
-            Refusal::AlreadyHeld => 8,
-            Refusal::Full => 9,
-            Refusal::NotHeld => 10,
-            Refusal::OtherLot => 11,
-            Refusal::SharedContainer => 12,
-            Refusal::TooManyTogether => 13,
-            Refusal::CountWrong => 14,
-            Refusal::TooFew => 15,
-            Refusal::BufferShort => 16,
-            Refusal::OutsideTable => 17,
-        }
-    }
+// The stages of a sheet: which frame was read last.
+pub enum Stage {
+    Start,
+    Lot,
+    Card,
+    Critical,
+    Range,
+    Result,
+    End,
 }
 
 // What a line of a sheet says (document 01's term: a frame).
@@ -205,24 +148,58 @@ pub enum Frame {
     },
 }
 
-// A report's answer: the text's length, or a refusal.
-pub enum Reported {
-    Length(usize),
-    TooFew,
-    BufferShort,
+// N, S, Q, and the two ends of the range.
+pub struct Figures {
+    pub count: u16,
+    pub sum: u32,
+    pub squares: u64,
+    pub smallest: u32,
+    pub largest: u32,
 }
 
-// The sheet writer's answer.
-pub enum Written {
-    Length(usize),
-    BadLot,
-    BufferShort,
+// V/W: a fraction of two whole numbers.
+pub struct Fraction {
+    pub over: u64,
+    pub under: u64,
 }
 
-// The answer of what prints for a sheet.
-pub enum Printed {
-    Length(usize),
-    BufferShort,
+// What H or R is set against.
+pub enum Limit {
+    Absent,
+    At(u32),
+}
+
+// Undecided: without a limit.
+pub enum Verdict {
+    Kept,
+    Over,
+    Undecided,
+}
+
+// H or R as its line has it, with its decimal places.
+pub struct Value {
+    pub places: u8,
+    pub value: u64,
+    pub limit: Limit,
+    pub verdict: Verdict,
+}
+
+// What the five lines of a report say: N, the mean with its decimal places, H and R, which a void lot has not, and the lot's verdict.
+pub struct Findings {
+    pub count: u16,
+    pub places: u8,
+    pub mean: u64,
+    pub void: bool,
+    pub h: Value,
+    pub r: Value,
+    pub lot: Verdict,
+}
+
+// ---- answers: calls that give a number
+// The number of a refusal, 0 for none, and a value.
+pub struct Answered {
+    pub number: u32,
+    pub value: u32,
 }
 
 // The number of primary samples.
@@ -244,4 +221,31 @@ pub enum Mixing {
     NotMixable,
     ResultTooHigh,
     OutsideTable,
+}
+
+// ---- answers: calls that write a text
+// The number of a refusal, 0 for none, and the text's length.
+pub struct TextSize {
+    pub number: u32,
+    pub size: usize,
+}
+
+// A report's answer: the text's length, or a refusal.
+pub enum Reported {
+    Length(usize),
+    TooFew,
+    BufferShort,
+}
+
+// The sheet writer's answer.
+pub enum Written {
+    Length(usize),
+    BadLot,
+    BufferShort,
+}
+
+// The answer of what prints for a sheet.
+pub enum Printed {
+    Length(usize),
+    BufferShort,
 }

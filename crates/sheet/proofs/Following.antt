@@ -1,143 +1,131 @@
--- The lines of a sheet one after the other: one law for each way the reader goes.
-use mathlib.Core.Path.{_≡_, refl, sym, ap, _∙_, subst}
-use mathlib.Core.Bool.{Bool, true, false}
+-- The lines of a sheet one after the other: what a line comes to, where the next one starts, and the line with which the results
+-- begin. Assumes nothing.
+use mathlib.Core.Path.{_≡_, refl, sym, ap, _∙_}
+use mathlib.Core.Bool.{Bool, true, false, true≢false}
 use mathlib.Core.List.{List}
 use Prim.Native.Nat.{ℕ, _+_, _-_, _≤_, _<_}
 use native.Mathlib.Decide.{decLe}
 use native.Mathlib.Omega.{arith}
+use lib.Dec.{eqb}
 use lib.ListN.{length, drop}
-use borrow.Author.Tests.{eq-eqb, ne-eqb, lt-ltb, le-ltb}
+use borrow.Author.Tests.{ne-eqb, lt-ltb, le-ltb}
+use Rattle.rules.specs.Choice.{pick, unless}
 use Rattle.rules.specs.Numbers.{numberOf}
-use Rattle.rules.specs.Lines.{linesOf, lineAt}
-use Rattle.rules.specs.Frames.{frameOf}
-use Rattle.rules.specs.Reading.{State, Next, goes, stops, Outcome, refused, stepOf, after, readFrom}
+use Rattle.rules.specs.Cards.{openNumber}
 use Rattle.rules.specs.Fields.{allDigits}
-use Rattle.rules.specs.declared.Frame.{Frame}
+use Rattle.rules.specs.Lines.{linesOf}
+use Rattle.rules.specs.Frames.{frameOf}
+use Rattle.rules.specs.Stages.{isOpened, isEnded}
+use Rattle.rules.specs.Reading.{State, Next, goes, stops, Outcome, accepted, refused, stepOf, after, readFrom}
+use Rattle.rules.specs.declared.Lot.{Lot}
+use Rattle.rules.specs.declared.Card.{Card}
 use Rattle.rules.specs.declared.Refusal.{Refusal}
-use Rattle.rules.specs.declared.Refusal.the-variants.{Accepted as NoFault}
+use Rattle.rules.specs.declared.Stage.{Stage}
+use Rattle.rules.specs.declared.Frame.{Frame}
 use Rattle.rules.specs.declared.Frame.the-variants.{Bad}
-use Rattle.rules.proofs.LineLaws.{lines-ended, lines-unended, lines-none}
 use Rattle.frames.specs.declared.Line.{Line}
+use Rattle.frames.specs.Runs.{lineAt}
 use Rattle.frames.specs.Cutting.{LineAt}
-use Rattle.reading.proofs.Going.{never}
-use Rattle.tally.specs.Calls.{Sound, freshTally}
-use Rattle.tally.specs.declared.Tally.{Tally}
-use Rattle.tally.proofs.Answer.{fresh-sound}
-use Rattle.sheet.specs.declared.Answer.the-variants.{Accepted, Refused}
-use Rattle.sheet.specs.declared.Reading.{Reading}
+use Rattle.frames.proofs.Runs.{lines-ended, lines-unended, lines-none}
+use Rattle.tally.specs.View.{stored}
+use Rattle.tally.specs.Calls.{Opens}
 use Rattle.steps.specs.declared.Progress.{Progress}
-use Rattle.steps.specs.declared.Stepped.{Stepped}
-use Rattle.steps.specs.Promise.{Lists, reached, stateOf, nextOf, Proper, Took}
-use Rattle.sheet.specs.declared.Taken.{Taken}
-use Rattle.sheet.specs.Promise.{toldBy, Tells}
-
--- what is left of the sheet s from a on, in the state t, the next line having the number n
-unfoldable pub left : List ℕ → ℕ → State → ℕ → Outcome
-left s a t n = readFrom (linesOf (drop a s)) t (n - 1)
-
-stops-same : (i j : ℕ) → stops i ≡ stops j → i ≡ j
-stops-same i j q = cc
+use Rattle.steps.specs.Promise.{Lists, cardRead, stateOf, isResult, HeadEnds, atResults, justOpened, openedState}
+use Rattle.steps.proofs.HeadLaws.{at-every-stage, begin-step}
+use Rattle.sheet.specs.declared.Reading.{Reading}
+use Rattle.sheet.specs.Promise.{ReadAs, Starts, readRest, readOpened, HeadRead}
 
 bad-frame : (l : List ℕ) → allDigits l ≡ false → frameOf l ≡ Bad
 unfolding frameOf
 bad-frame l e = rw e refl
 
--- ---- a line: its frame and what the step of the frame does
-module _ (s : List ℕ) (a : ℕ) (t : State) (n : ℕ) (from : 1 ≤ n) (h : a < length s) where
-  number : n - 1 + 1 ≡ n
-  number = omega arith
+-- a line that is taken is not bad
+pub taken-frame : {u : State} (f : Frame) (t : State) → stepOf f t ≡ goes u → f ≡ Bad → ⊥
+taken-frame f t q e = let z : _≡_ {A = ℕ} 0 1 = cc (ap (λ (g : Frame). stepOf g t) e) in omega arith
 
-  left-unended : length s ≤ a + length (lineAt s a) → left s a t n ≡ refused 1 n
-  unfolding left readFrom
-  left-unended k = rw (lines-unended s a h k) (ap (refused 1) number)
+pub result-frame : (f : Frame) → isResult f ≡ true → f ≡ Bad → ⊥
+result-frame f q e = true≢false (sym q ∙ ap isResult e)
 
-  -- what follows the line
-  abbrev rest : State → Outcome
-  rest u = readFrom (linesOf (drop (a + length (lineAt s a) + 1) s)) u n
+after-unless : (b : Bool) (e n : ℕ) (x : Next) (k : State → Outcome) → after (unless b (stops e) x) n k ≡ unless b (refused e n) (after x n k)
+after-unless true e n x k = refl
+after-unless false e n x k = refl
 
-  left-line : a + length (lineAt s a) < length s → left s a t n ≡ after (stepOf (frameOf (lineAt s a)) t) n rest
-  unfolding left readFrom
-  left-line k = rw (lines-ended s a k, number) refl
+-- ---- the line that starts at a, the n-th, with the frame and the end that were found
+module _ {s : List ℕ} {a n : ℕ} {f : Line} (starts : Starts s a n) (h : a < length s) (at : LineAt s a f) where
+  -- where the line ends, and what is left of the sheet behind it
+  abbrev over : ℕ
+  over = a + length (lineAt s a)
 
-  module _ (f : Line) (at : LineAt s a f) (r : Stepped) (l : Lists) (k : Took (stepOf (f .frame) t) r l) (m : ℕ) (e : m ≡ numberOf (r .refusal)) where
-    ended-frame : a + length (lineAt s a) < length s → f .frame ≡ frameOf (lineAt s a)
-    ended-frame q = at .frame ∙ rw (lt-ltb (a + length (lineAt s a)) (length s) q) refl
+  abbrev behind : State → Outcome
+  behind u = readRest s (f .end + 1) u (n + 1)
 
-    unended-frame : length s ≤ a + length (lineAt s a) → f .frame ≡ Bad
-    unended-frame q = at .frame ∙ rw (le-ltb (a + length (lineAt s a)) (length s) q) refl
+  -- a line without its end byte, with another byte than digits before it, or of digits alone
+  ways : {A : Type 0} → (length s ≤ over → f .frame ≡ Bad → A) → (over < length s → f .frame ≡ frameOf (lineAt s a) → f .frame ≡ Bad → A)
+      → (over < length s → f .frame ≡ frameOf (lineAt s a) → over ≡ f .end → A) → A
+  ways {A} unended other digits = by-end (decLe (length s) over)
+    where
+      by-digits : over < length s → f .frame ≡ frameOf (lineAt s a) → (b : Bool) → allDigits (lineAt s a) ≡ b → A
+      by-digits k q true e = digits k q (sym (at .end e))
+      by-digits k q false e = other k q (q ∙ bad-frame (lineAt s a) e)
 
-    -- the step of a frame that is f's
-    by-frame : (g : Frame) → f .frame ≡ g → stepOf g t ≡ nextOf r l
-    by-frame g q = sym (k .right ∙ ap (λ (i : Frame). stepOf i t) q)
+      by-end : Dec (length s ≤ over) → A
+      by-end (yes k) = unended k (at .frame ∙ rw (le-ltb over (length s) k) refl)
+      by-end (no k) =
+          let i : over < length s = omega arith in
+          by-digits i (at .frame ∙ rw (lt-ltb over (length s) i) refl) (allDigits (lineAt s a)) refl
 
-    pub left-stopped : (m ≡ 0 → ⊥) → left s a t n ≡ refused (numberOf (r .refusal)) n
-    left-stopped z = go (decLe (length s) (a + length (lineAt s a)))
-      where
-        stop : nextOf r l ≡ stops (numberOf (r .refusal))
-        stop = rw (← e, ne-eqb m 0 z) refl
+  -- what the sheet comes to is what the line comes to, and what is left behind it
+  line-is : (t : State) → readRest s a t n ≡ after (stepOf (f .frame) t) n behind
+  unfolding readRest readFrom
+  line-is t =
+      let number : n - 1 + 1 ≡ n = omega arith in
+      let next : n ≡ n + 1 - 1 = omega arith in
+      ways
+      (λ k q. rw (lines-unended s a h k, number, q) refl)
+      (λ k q r. rw (lines-ended s a k, number, ← q, r) refl)
+      (λ k q e. rw (lines-ended s a k, number, ← q) (λ i. after (stepOf (f .frame) t) n (λ u. readFrom (linesOf (drop (e i + 1) s)) u (next i))))
 
-        go : Dec (length s ≤ a + length (lineAt s a)) → left s a t n ≡ refused (numberOf (r .refusal)) n
-        go (yes q) = left-unended q ∙ ap (λ (i : ℕ). refused i n) (stops-same 1 (numberOf (r .refusal)) (by-frame Bad (unended-frame q) ∙ stop))
-        go (no q) = left-line (omega arith) ∙ ap (λ (x : Next). after x n rest) (by-frame (frameOf (lineAt s a)) (ended-frame (omega arith)) ∙ stop)
+  pub line-comes : {o : Outcome} {x : Next} (t : State) → o ≡ readRest s a t n → stepOf (f .frame) t ≡ x → o ≡ after x n behind
+  line-comes t e q = e ∙ (line-is t ∙ ap (λ (y : Next). after y n behind) q)
 
-    module _ (z : m ≡ 0) where
-      go-on : nextOf r l ≡ goes (stateOf (r .progress) l)
-      go-on = rw (← e, eq-eqb m 0 z) refl
+  -- a line that is not bad has its end byte, and the next one may start behind it
+  pub line-next : (f .frame ≡ Bad → ⊥) → Starts s (f .end + 1) (n + 1) × (a < f .end + 1)
+  line-next z =
+      ways (λ k q. absurd (z q)) (λ k q r. absurd (z r)) (λ k q e. (record { within = omega arith; first = omega arith; few = omega arith }, omega arith))
 
-      -- a line that is taken has its end byte, and nothing but digits before it
-      pub ended-line : a + length (lineAt s a) < length s
-      ended-line = go (decLe (length s) (a + length (lineAt s a)))
-        where
-          go : Dec (length s ≤ a + length (lineAt s a)) → a + length (lineAt s a) < length s
-          go (yes q) = never (by-frame Bad (unended-frame q) ∙ go-on)
-          go (no q) = omega arith
+  -- the results begin with it
+  pub results-follow : {o : Outcome} (p : Progress) (l m : Lists) → o ≡ readRest s a (stateOf p l) n → isOpened (p .stage) ≡ false
+      → HeadEnds (f .frame) p l m → HeadRead o s (p .lot) (cardRead p m) (p .last) a n
+  results-follow p l m q i e =
+      let number = openNumber (p .lot) (cardRead p l) in
+      let state = justOpened (p .lot) (cardRead p l) (p .last) in
+      record {
+        right =
+            line-comes (stateOf p l) q (begin-step p l (f .frame) i (e .begins))
+            ∙ (after-unless (eqb number 0) number n (stepOf (f .frame) state) behind
+            ∙ (ap (unless (eqb number 0) (refused number n)) (sym (line-is state))
+            ∙ ap (λ (k : Lists). readOpened s a (p .lot) (cardRead p k) (p .last) n) (sym (e .kept))));
+        starts = starts;
+      }
 
-      pub line-end : f .end ≡ a + length (lineAt s a)
-      line-end = at .end (go (allDigits (lineAt s a)) refl)
-        where
-          go : (b : Bool) → allDigits (lineAt s a) ≡ b → allDigits (lineAt s a) ≡ true
-          go true q = q
-          go false q = never (by-frame Bad (ended-frame ended-line ∙ bad-frame (lineAt s a) q) ∙ go-on)
+-- ---- behind the last line
+pub rest-none : {s : List ℕ} {a n : ℕ} → Starts s a n → length s ≤ a → (t : State) (b : Bool) → isEnded (t .stage) ≡ b
+    → readRest s a t n ≡ pick b (accepted (t .ledger) (n - 1)) (refused 2 n)
+unfolding readRest readFrom
+rest-none {s} {a} {n} starts end t b e = let q : n - 1 + 1 ≡ n = omega arith in rw (lines-none s a end, q, e) refl
 
-      pub left-went : left s a t n ≡ left s (f .end + 1) (stateOf (r .progress) l) (n + 1)
-      unfolding left
-      left-went =
-          let q : n + 1 - 1 ≡ n = omega arith in
-          left-line ended-line ∙ ap (λ (x : Next). after x n rest) (by-frame (frameOf (lineAt s a)) (ended-frame ended-line) ∙ go-on) ∙ rw (line-end, q) refl
+-- a sheet does not end before the lot is opened
+pub unended : (s : Stage) → isOpened s ≡ false → isEnded s ≡ false
+unended = at-every-stage (λ s. isOpened s ≡ false → isEnded s ≡ false) (λ e. refl) (λ e. refl) (λ e. refl) (λ e. refl) (λ e. refl) (λ e. refl) (λ e. e)
 
--- ---- the lines that were taken
--- the first faulty line
-pub taken-stopped : (v : Outcome) (e : Refusal) (n : ℕ) (p : Progress) (l : Lists) (m : ℕ) → m ≡ numberOf e → (m ≡ 0 → ⊥) → v ≡ refused (numberOf e) n → v ≡ toldBy (record { refusal = e; line = n; progress = p }) l
-unfolding toldBy
-taken-stopped v e n p l m i z q = q ∙ sym (rw (← i, ne-eqb m 0 z) refl)
+-- ---- the answer to the open, where the results begin
+pub read-as : {o q : Outcome} {r : Reading} → ReadAs o r → o ≡ q → ReadAs q r
+read-as h e = record { right = h .right ∙ e; sound = h .sound; empty = h .empty }
 
--- all of them
-pub taken-all : (s : List ℕ) (a : ℕ) (n : ℕ) (p : Progress) (l : Lists) → 1 ≤ n → length s ≤ a → left s a (stateOf p l) n ≡ toldBy (record { refusal = NoFault; line = n; progress = p }) l
-unfolding left readFrom toldBy
-taken-all s a n p l from over = let q : n - 1 + 1 ≡ n = omega arith in rw (lines-none s a over, q) refl
+module _ (s : List ℕ) (a n last : ℕ) {l : Lot} {c : Card} {e : Refusal} (answer : Opens l c e) {m : ℕ} (is : m ≡ numberOf e) where
+  pub open-refused : (m ≡ 0 → ⊥) → refused (numberOf e) n ≡ readOpened s a l c last n
+  open-refused z = rw (← answer .right, ← is, ne-eqb m 0 z) refl
 
--- what is told of the sheet where the lines r were taken, with the lists l
-module _ (v : Outcome) (r : Taken) (l : Lists) (m : ℕ) (i : m ≡ numberOf (r .refusal)) (is : v ≡ toldBy r l) where
-  pub told-refused : (m ≡ 0 → ⊥) → (w : Reading) → Tells (refused (numberOf (r .refusal)) (r .line)) w → Tells v w
-  unfolding toldBy
-  told-refused z w h = record { right = h .right ∙ sym (is ∙ rw (← i, ne-eqb m 0 z) refl); sound = h .sound; empty = h .empty }
-
-  module _ (z : m ≡ 0) where
-    pub told-early : (r .progress .before ≡ 6 → ⊥) → (w : Reading) → Tells (refused 2 (r .line)) w → Tells v w
-    unfolding toldBy
-    told-early e w h = record { right = h .right ∙ sym (is ∙ rw (← i, z, ne-eqb (r .progress .before) 6 e) refl); sound = h .sound; empty = h .empty }
-
-    -- the tally is what the lines came to
-    pub told-tally : r .progress .before ≡ 6 → Proper (r .progress) l → (u : Tally) → u ≡ reached (r .progress) l → Tells v (record { answer = Accepted (r .line - 1); tally = u })
-    unfolding toldBy
-    told-tally e h u q =
-        rw q
-        (record {
-          right = sym (is ∙ rw (← i, z, e) refl);
-          sound = h .sound (omega (arith, e));
-          empty = tt;
-        })
-
--- a refusal hands back the fresh tally
-pub refused-tells : (e : Refusal) (n : ℕ) (t : Tally) → t ≡ freshTally → Tells (refused (numberOf e) n) (record { answer = Refused e n; tally = t })
-refused-tells e n t q = record { right = refl; sound = subst Sound (sym q) fresh-sound; empty = q }
+  pub open-accepted : m ≡ 0 → (ks vs : List ℕ) → readRest s a (openedState l c last atResults ks vs) n ≡ readOpened s a l c last n
+  unfolding stored
+  open-accepted z ks vs = rw (← answer .right, ← is, z) refl

@@ -1,106 +1,125 @@
--- What a line does to what the lines before it came to, as the reader keeps it.
+-- What a line does to what the lines before it came to, as the reader keeps it: first lot and card, then the results.
 use mathlib.Core.Path.{_≡_}
-use mathlib.Core.Bool.{_&&_}
+use mathlib.Core.Bool.{Bool, true, false, _&&_}
 use mathlib.Core.List.{List}
-use Prim.Native.Nat.{ℕ, _≤_, _<_}
-use lib.Dec.{eqb, leb, ltb}
-use lib.ListN.{length}
-use Rattle.rules.specs.Choice.{pick}
-use Rattle.rules.specs.Limits.{mostHeld}
+use Prim.Native.Nat.{ℕ}
 use Rattle.rules.specs.Numbers.{numberOf}
-use Rattle.rules.specs.Ledger.{Judged, freshLot, freshLedger}
-use Rattle.rules.specs.Reading.{State, Next, goes, stops, begun}
+use Rattle.rules.specs.Cards.{cardOf, freshLot, freshHead}
+use Rattle.rules.specs.Ledger.{opened, freshLedger}
+use Rattle.rules.specs.Stages.{mayStand, isOpened}
+use Rattle.rules.specs.Reading.{State, goes, stops, stepOf}
+use Rattle.rules.specs.declared.Lot.{Lot}
 use Rattle.rules.specs.declared.Card.{Card}
-use Rattle.rules.specs.declared.Refusal.{Refusal}
+use Rattle.rules.specs.declared.Stage.the-variants as stage
+use Rattle.rules.specs.declared.Frame.{Frame}
+use Rattle.rules.specs.declared.Frame.the-variants as frame
 use Rattle.tally.specs.View.{tallyOf, view}
 use Rattle.tally.specs.Calls.{Sound}
-use Rattle.tally.specs.declared.Tally.{Tally}
 use Rattle.steps.specs.declared.Progress.{Progress}
-use Rattle.steps.specs.declared.Stepped.{Stepped}
+use Rattle.steps.specs.declared.HeadLine.{HeadLine}
+use Rattle.steps.specs.declared.HeadLine.the-variants as head-line
+use Rattle.steps.specs.declared.Results.{Results}
+use Rattle.steps.specs.declared.ResultLine.{ResultLine}
+use Rattle.steps.specs.declared.ResultLine.the-variants as result-line
 
--- the lists of the card and of the results
+-- ---- lot and card
+-- the lists of a card
 pub record Lists : Type 0 where
   pub critical : List ℕ
   pub lowest : List ℕ
   pub highest : List ℕ
   pub bound : List ℕ
   pub tolerated : List ℕ
-  pub containers : List ℕ
-  pub results : List ℕ
 
-abbrev pub listsOf : List ℕ → List ℕ → List ℕ → List ℕ → List ℕ → List ℕ → List ℕ → Lists
-listsOf c lo hi b t ks vs = record { critical = c; lowest = lo; highest = hi; bound = b; tolerated = t; containers = ks; results = vs }
+abbrev pub listsOf : List ℕ → List ℕ → List ℕ → List ℕ → List ℕ → Lists
+listsOf c lo hi b t = record { critical = c; lowest = lo; highest = hi; bound = b; tolerated = t }
 
-abbrev pub withCriticals : Lists → List ℕ → Lists
-withCriticals l c = listsOf c (l .lowest) (l .highest) (l .bound) (l .tolerated) (l .containers) (l .results)
+abbrev pub withCriticalList : Lists → List ℕ → Lists
+withCriticalList l c = listsOf c (l .lowest) (l .highest) (l .bound) (l .tolerated)
 
-abbrev pub withRows : Lists → List ℕ → List ℕ → List ℕ → List ℕ → Lists
-withRows l lo hi b t = listsOf (l .critical) lo hi b t (l .containers) (l .results)
-
-abbrev pub withResults : Lists → List ℕ → List ℕ → Lists
-withResults l ks vs = listsOf (l .critical) (l .lowest) (l .highest) (l .bound) (l .tolerated) ks vs
+abbrev pub withRowLists : Lists → List ℕ → List ℕ → List ℕ → List ℕ → Lists
+withRowLists l lo hi b t = listsOf (l .critical) lo hi b t
 
 -- the card as far as it was read
-abbrev pub cardOf : Progress → Lists → Card
-cardOf p l =
-    record {
-      factor = p .factor;
-      offset = p .offset;
-      seeds = p .seeds;
-      critical = l .critical;
-      rows = p .rows;
-      lowest = l .lowest;
-      highest = l .highest;
-      bound = l .bound;
-      tolerated = l .tolerated;
-    }
+abbrev pub cardRead : Progress → Lists → Card
+cardRead p l = cardOf (p .head) (l .critical) (p .rows) (l .lowest) (l .highest) (l .bound) (l .tolerated)
 
--- the tally, once the lot is opened
-abbrev pub reached : Progress → Lists → Tally
-reached p l = tallyOf (p .lot) (cardOf p l) (l .containers) (l .results) (p .held)
-
--- what the lines so far came to, as the reader keeps it: the lot is opened at the first result or the end, and each result frame
--- is held
+-- what the lines of lot and card came to: no result was read, and the lot is not opened
 abbrev pub stateOf : Progress → Lists → State
 stateOf p l =
-    record {
-      before = p .before;
-      lot = p .lot;
-      card = cardOf p l;
-      last = p .last;
-      results = p .held;
-      ledger = pick (ltb (p .before) 5) freshLedger (view (reached p l));
-    }
+    record { stage = p .stage; lot = p .lot; card = cardRead p l; last = p .last; results = 0; ledger = freshLedger }
 
 -- nothing is read
 abbrev pub atFirst : Progress
-atFirst = record { before = 0; lot = freshLot; factor = 0; offset = 0; seeds = 0; rows = 0; last = 0; held = 0 }
+atFirst = record { stage = stage.Start; lot = freshLot; head = freshHead; rows = 0; last = 0 }
 
--- as the reader makes them: nothing is held before the first result
-pub record Proper (p : Progress) (l : Lists) : Type 0 where
-  pub keys : length (l .containers) ≡ mostHeld
-  pub values : length (l .results) ≡ mostHeld
-  pub none : p .before < 5 → p .held ≡ 0
-  pub sound : 5 ≤ p .before → Sound (reached p l)
+-- whether a frame is a result or the end
+abbrev pub isResult : Frame → Bool
+isResult frame.Bad = false
+isResult (frame.Lot a n) = false
+isResult (frame.Card f g n) = false
+isResult (frame.Critical k v) = false
+isResult (frame.Range l h b r) = false
+isResult (frame.Result c x) = true
+isResult (frame.End n) = true
 
-abbrev pub nextOf : Stepped → Lists → Next
-nextOf r l = pick (eqb (numberOf (r .refusal)) 0) (goes (stateOf (r .progress) l)) (stops (numberOf (r .refusal)))
+-- the results begin with a line: a result or the end stands where it may
+abbrev pub beginsResults : Frame → Progress → Bool
+beginsResults f p = isResult f && mayStand 5 (p .stage)
 
--- a line's step is n, and the lists are l after it
-pub record Took (n : Next) (r : Stepped) (l : Lists) : Type 0 where
-  pub right : nextOf r l ≡ n
-  pub proper : Proper (r .progress) l
+-- a line with the frame f is taken: what p and the lists l say goes on to what q and the lists m say, and the lot is not opened yet
+pub record HeadTaken (f : Frame) (p : Progress) (l : Lists) (q : Progress) (m : Lists) : Type 0 where
+  pub right : stepOf f (stateOf p l) ≡ goes (stateOf q m)
+  pub unopened : isOpened (q .stage) ≡ false
 
--- what a line does to p and the lists l, by the step f: r, and the lists m
-abbrev pub Steps : (State → Next) → Progress → Lists → Stepped → Lists → Type 0
-Steps f p l r m = Proper p l → Took (f (stateOf p l)) r m
+-- it is refused with the number n, and the lists stay, on any lists
+pub record HeadRefused (f : Frame) (p : Progress) (l : Lists) (n : ℕ) (m : Lists) : Type 0 where
+  pub right : stepOf f (stateOf p l) ≡ stops n
+  pub kept : m ≡ l
+  pub beginsNot : beginsResults f p ≡ false
 
--- the ledger where a result or the end stands, or 2 where neither may
-abbrev pub openedFor : State → Judged
-openedFor s = pick (leb 2 (s .before) && leb (s .before) 5) (begun s) (record { number = 2; ledger = s .ledger })
+-- the results begin with it, and the lists stay
+pub record HeadEnds (f : Frame) (p : Progress) (l m : Lists) : Type 0 where
+  pub begins : beginsResults f p ≡ true
+  pub kept : m ≡ l
 
--- e is what the opening is refused with
-pub record Began (p : Progress) (l : Lists) (e : Refusal) : Type 0 where
-  pub right : numberOf e ≡ openedFor (stateOf p l) .number
-  pub ledger : Proper p l → numberOf e ≡ 0 → openedFor (stateOf p l) .ledger ≡ view (reached p l)
-  pub sound : Proper p l → numberOf e ≡ 0 → Sound (reached p l)
+-- r is what a line with the frame f comes to, with the lists m after it
+abbrev pub HeadLineIs : Frame → Progress → Lists → HeadLine → Lists → Type 0
+HeadLineIs f p l (head-line.Taken q) m = HeadTaken f p l q m
+HeadLineIs f p l head-line.Results m = HeadEnds f p l m
+HeadLineIs f p l (head-line.Refused e) m = HeadRefused f p l (numberOf e) m
+
+-- ---- results
+-- what the lines came to once the lot l is opened with the card c: what is held stands in the lists of containers and results
+abbrev pub openedState : Lot → Card → ℕ → Results → List ℕ → List ℕ → State
+openedState l c last p ks vs =
+    record { stage = p .stage; lot = l; card = c; last = last; results = p .held; ledger = view (tallyOf l c ks vs (p .held)) }
+
+-- where the results begin: the lot is opened, nothing is held, and no frame of lot or card may stand any more
+abbrev pub atResults : Results
+atResults = record { stage = stage.Result; held = 0 }
+
+abbrev pub justOpened : Lot → Card → ℕ → State
+justOpened l c last = record { stage = stage.Result; lot = l; card = c; last = last; results = 0; ledger = opened l c }
+
+-- as the reader makes them
+pub record Proper (l : Lot) (c : Card) (p : Results) (ks vs : List ℕ) : Type 0 where
+  pub opened : isOpened (p .stage) ≡ true
+  pub sound : Sound (tallyOf l c ks vs (p .held))
+
+-- a line with the frame f is taken: a result or the end, whatever the card
+pub record ResultTaken (f : Frame) (l : Lot) (p : Results) (ks vs : List ℕ) (q : Results) (ks′ vs′ : List ℕ) : Type 0 where
+  pub result : isResult f ≡ true
+  pub right : (c : Card) (last : ℕ) → Proper l c p ks vs → stepOf f (openedState l c last p ks vs) ≡ goes (openedState l c last q ks′ vs′)
+  pub proper : (c : Card) → Proper l c p ks vs → Proper l c q ks′ vs′
+
+-- it is refused with the number n, and the lists stay, on any lists
+pub record ResultRefused (f : Frame) (l : Lot) (p : Results) (ks vs : List ℕ) (n : ℕ) (ks′ vs′ : List ℕ) : Type 0 where
+  pub right : (c : Card) (last : ℕ) → Proper l c p ks vs → stepOf f (openedState l c last p ks vs) ≡ stops n
+  pub containers : ks′ ≡ ks
+  pub results : vs′ ≡ vs
+
+-- r is what a line with the frame f comes to, with these lists after it
+abbrev pub ResultLineIs : Frame → Lot → Results → List ℕ → List ℕ → ResultLine → List ℕ → List ℕ → Type 0
+ResultLineIs f l p ks vs (result-line.Taken q) ks′ vs′ = ResultTaken f l p ks vs q ks′ vs′
+ResultLineIs f l p ks vs (result-line.Refused e) ks′ vs′ = ResultRefused f l p ks vs (numberOf e) ks′ vs′

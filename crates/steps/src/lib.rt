@@ -1,137 +1,132 @@
-// What each frame of a sheet does to what the lines before it came to. The lists of the card and of the results are lent, so that a
-// line costs what it changes.
+// What a line of a sheet does to what the lines before it came to: the lines of lot and card first, then those of the results.
 ghost use mathlib.Core.Path.{_≡_};
+ghost use mathlib.Core.Bool.{true};
 ghost use mathlib.Core.List.{List};
 ghost use Prim.Native.Nat.{ℕ};
-ghost use Rattle.rules.specs.Reading.{lotStep, cardStep, criticalStep, rangeStep, resultStep, endStep, stepOf};
-ghost use Rattle.steps.specs.Promise.{Lists, listsOf, withCriticals, withRows, withResults, cardOf, reached, atFirst, Began, Steps};
+ghost use Rattle.rules.specs.declared.Lot.{Lot};
+ghost use Rattle.rules.specs.declared.Frame.{Frame};
+ghost use Rattle.rules.specs.declared.Frame.the-variants as frame;
+ghost use Rattle.steps.specs.Promise.{Lists, listsOf, withCriticalList, withRowLists, atFirst, isResult, HeadLineIs, ResultLineIs};
 use cards;
 use rules::CRITICALS;
-use rules::Card;
 use rules::Frame;
-use rules::LEAST_REPORTED;
+use rules::Head;
 use rules::Lot;
 use rules::MOST_HELD;
 use rules::MOST_ROWS;
 use rules::Refusal;
-use tally::Tally;
+use rules::Stage;
 
-// What the lines so far came to, but for the lists: the kind of the frame before, 0 for none; the lot; F, G, n and the number of rows
-// of the card; N of the critical frame before, 0 for none; and how many results are held.
+// What the lines of lot and card came to, but for the card's lists: the stage, the lot, F, G, n and the number of rows of the card,
+// and N of the critical frame before, 0 for none.
 pub struct Progress {
-    pub before: u16,
+    pub stage: Stage,
     pub lot: Lot,
-    pub factor: u16,
-    pub offset: u16,
-    pub seeds: u16,
+    pub head: Head,
     pub rows: usize,
     pub last: u16,
-    pub held: usize,
 }
 
-// A line's refusal, and what the lines came to with it.
-pub struct Stepped {
-    pub refusal: Refusal,
-    pub progress: Progress,
+// What a line comes to before the first result.
+pub enum HeadLine {
+    // a line of lot or card, taken
+    Taken(Progress),
+    // a result or the end may stand here, and does: it is not taken yet
+    Results,
+    Refused(Refusal),
 }
 
 // Nothing is read.
 pub fn start() -> Progress
     ensures { λ r. ⌜ r ≡ atFirst ⌝ }
 {
-    Progress {
-        before: 0,
-        lot: Lot {
-            attribute: 0,
-            containers: 0,
-        },
+    let lot = Lot {
+        attribute: 0,
+        containers: 0,
+    };
+    let head = Head {
         factor: 0,
         offset: 0,
         seeds: 0,
+    };
+    Progress {
+        stage: Stage::Start,
+        lot: lot,
+        head: head,
         rows: 0,
         last: 0,
-        held: 0,
     }
 }
 
-fn lot_step(p: Progress, a: u16, n: u16) -> Stepped
-    ensures { λ r. ⌜ ((l : Lists) → Steps (λ s. lotStep s a n) p l r l) ⌝ }
+fn lot_step(p: Progress, a: u16, n: u16) -> HeadLine
+    ensures { λ r. ⌜ ((l : Lists) → HeadLineIs (frame.Lot a n) p l r l) ⌝ }
 {
-    if p.before != 0 {
-        return Stepped {
-            refusal: Refusal::OutOfTurn,
-            progress: p,
-        };
+    let stage = p.stage;
+    if !stage.takes(1) {
+        return HeadLine::Refused(Refusal::OutOfTurn);
     }
-    if cards::lot_good(a, n) {
-        let lot = Lot {
-            attribute: a,
-            containers: n,
-        };
-        let mut next = p;
-        next.before = 1;
-        next.lot = lot;
-        return Stepped {
-            refusal: Refusal::Accepted,
-            progress: next,
-        };
+    if !cards::lot_good(a, n) {
+        return HeadLine::Refused(Refusal::BadLot);
     }
-    Stepped {
-        refusal: Refusal::BadLot,
-        progress: p,
-    }
+    let lot = Lot {
+        attribute: a,
+        containers: n,
+    };
+    let head = p.head;
+    HeadLine::Taken(Progress {
+        stage: Stage::Lot,
+        lot: lot,
+        head: head,
+        rows: p.rows,
+        last: p.last,
+    })
 }
 
-fn card_step(p: Progress, f: u16, g: u16, n: u16) -> Stepped
-    ensures { λ r. ⌜ ((l : Lists) → Steps (λ s. cardStep s f g n) p l r l) ⌝ }
+fn card_step(p: Progress, f: u16, g: u16, n: u16) -> HeadLine
+    ensures { λ r. ⌜ ((l : Lists) → HeadLineIs (frame.Card f g n) p l r l) ⌝ }
 {
-    if p.before != 1 {
-        return Stepped {
-            refusal: Refusal::OutOfTurn,
-            progress: p,
-        };
-    }
+    let stage = p.stage;
     let lot = p.lot;
-    if cards::head_good(lot.attribute, f, g, n) {
-        let mut next = p;
-        next.before = 2;
-        next.factor = f;
-        next.offset = g;
-        next.seeds = n;
-        return Stepped {
-            refusal: Refusal::Accepted,
-            progress: next,
-        };
+    let head = Head {
+        factor: f,
+        offset: g,
+        seeds: n,
+    };
+    if !stage.takes(2) {
+        return HeadLine::Refused(Refusal::OutOfTurn);
     }
-    Stepped {
-        refusal: Refusal::BadCard,
-        progress: p,
+    if !cards::head_good(lot.attribute, head) {
+        return HeadLine::Refused(Refusal::BadCard);
     }
+    HeadLine::Taken(Progress {
+        stage: Stage::Card,
+        lot: lot,
+        head: head,
+        rows: p.rows,
+        last: p.last,
+    })
 }
 
-fn critical_step(p: Progress, critical: &mut [u32; CRITICALS], k: u16, v: u16) -> Stepped
-    ensures { λ r. ⌜ ((l : Lists) → Steps (λ s. criticalStep s k v) p (withCriticals l (now (critical .entry))) r (withCriticals l (now (critical .exit)))) ⌝ }
+fn critical_step(p: Progress, critical: &mut [u32; CRITICALS], k: u16, v: u16) -> HeadLine
+    ensures { λ r. ⌜ ((l : Lists) → HeadLineIs (frame.Critical k v) p (withCriticalList l (now (critical .entry))) r (withCriticalList l (now (critical .exit)))) ⌝ }
 {
-    if (2 <= p.before) & (p.before <= 3) {
-        if (LEAST_REPORTED <= k as usize) & ((k as usize <= MOST_HELD) & (p.last < k)) {
-            critical[k as usize] = v as u32 + 1;
-            let mut next = p;
-            next.before = 3;
-            next.last = k;
-            return Stepped {
-                refusal: Refusal::Accepted,
-                progress: next,
-            };
-        }
-        return Stepped {
-            refusal: Refusal::BadCard,
-            progress: p,
-        };
+    let stage = p.stage;
+    let lot = p.lot;
+    let head = p.head;
+    if !stage.takes(3) {
+        return HeadLine::Refused(Refusal::OutOfTurn);
     }
-    Stepped {
-        refusal: Refusal::OutOfTurn,
-        progress: p,
+    if !cards::critical_follows(p.last, k) {
+        return HeadLine::Refused(Refusal::BadCard);
     }
+    critical[k as usize] = v as u32 + 1;
+    HeadLine::Taken(Progress {
+        stage: Stage::Critical,
+        lot: lot,
+        head: head,
+        rows: p.rows,
+        last: k,
+    })
 }
 
 fn range_step(
@@ -144,189 +139,60 @@ fn range_step(
     h: u16,
     b: u16,
     r: u16,
-) -> Stepped
-    ensures { λ q. ⌜ ((o : Lists) → Steps (λ s. rangeStep s l h b r) p (withRows o (now (lowest .entry)) (now (highest .entry)) (now (bound .entry)) (now (tolerated .entry))) q (withRows o (now (lowest .exit)) (now (highest .exit)) (now (bound .exit)) (now (tolerated .exit)))) ⌝ }
+) -> HeadLine
+    ensures { λ q. ⌜ ((o : Lists) → HeadLineIs (frame.Range l h b r) p (withRowLists o (now (lowest .entry)) (now (highest .entry)) (now (bound .entry)) (now (tolerated .entry))) q (withRowLists o (now (lowest .exit)) (now (highest .exit)) (now (bound .exit)) (now (tolerated .exit)))) ⌝ }
 {
-    if (2 <= p.before) & (p.before <= 4) {
-        if cards::row_good(l, h, b) {
-            let at = p.rows;
-            if at < MOST_ROWS {
-                lowest[at] = l;
-                highest[at] = h;
-                bound[at] = b;
-                tolerated[at] = r;
-                let mut next = p;
-                next.before = 4;
-                next.rows = at + 1;
-                return Stepped {
-                    refusal: Refusal::Accepted,
-                    progress: next,
-                };
-            }
-            return Stepped {
-                refusal: Refusal::CardFull,
-                progress: p,
-            };
-        }
-        return Stepped {
-            refusal: Refusal::BadCard,
-            progress: p,
-        };
-    }
-    Stepped {
-        refusal: Refusal::OutOfTurn,
-        progress: p,
-    }
-}
-
-// The card, as far as it was read.
-fn card_of(
-    p: Progress,
-    critical: &[u32; CRITICALS],
-    lowest: &[u16; MOST_ROWS],
-    highest: &[u16; MOST_ROWS],
-    bound: &[u16; MOST_ROWS],
-    tolerated: &[u16; MOST_ROWS],
-) -> Card
-    ensures { λ r. ⌜ ((ks vs : List ℕ) → r ≡ cardOf p (listsOf (now (critical .entry)) (now (lowest .entry)) (now (highest .entry)) (now (bound .entry)) (now (tolerated .entry)) ks vs)) ⌝ }
-{
-    Card {
-        factor: p.factor,
-        offset: p.offset,
-        seeds: p.seeds,
-        critical: *critical,
-        rows: p.rows,
-        lowest: *lowest,
-        highest: *highest,
-        bound: *bound,
-        tolerated: *tolerated,
-    }
-}
-
-// The tally that the lines came to, once the lot is opened.
-pub fn tally_of(
-    p: Progress,
-    critical: &[u32; CRITICALS],
-    lowest: &[u16; MOST_ROWS],
-    highest: &[u16; MOST_ROWS],
-    bound: &[u16; MOST_ROWS],
-    tolerated: &[u16; MOST_ROWS],
-    containers: &[u16; MOST_HELD],
-    results: &[u16; MOST_HELD],
-) -> Tally
-    ensures { λ r. ⌜ r ≡ reached p (listsOf (now (critical .entry)) (now (lowest .entry)) (now (highest .entry)) (now (bound .entry)) (now (tolerated .entry)) (now (containers .entry)) (now (results .entry))) ⌝ }
-{
+    let stage = p.stage;
     let lot = p.lot;
-    let card = card_of(p, critical, lowest, highest, bound, tolerated);
-    Tally {
+    let head = p.head;
+    let at = p.rows;
+    if !stage.takes(4) {
+        return HeadLine::Refused(Refusal::OutOfTurn);
+    }
+    if !cards::row_good(l, h, b) {
+        return HeadLine::Refused(Refusal::BadCard);
+    }
+    if MOST_ROWS <= at {
+        return HeadLine::Refused(Refusal::CardFull);
+    }
+    lowest[at] = l;
+    highest[at] = h;
+    bound[at] = b;
+    tolerated[at] = r;
+    HeadLine::Taken(Progress {
+        stage: Stage::Range,
         lot: lot,
-        card: card,
-        containers: *containers,
-        results: *results,
-        held: p.held,
-    }
+        head: head,
+        rows: at + 1,
+        last: p.last,
+    })
 }
 
-// Whether a result or the end may stand here: the lot is opened where it was not yet.
-fn opened(
-    p: Progress,
-    critical: &[u32; CRITICALS],
-    lowest: &[u16; MOST_ROWS],
-    highest: &[u16; MOST_ROWS],
-    bound: &[u16; MOST_ROWS],
-    tolerated: &[u16; MOST_ROWS],
-) -> Refusal
-    ensures { λ r. ⌜ ((ks vs : List ℕ) → Began p (listsOf (now (critical .entry)) (now (lowest .entry)) (now (highest .entry)) (now (bound .entry)) (now (tolerated .entry)) ks vs) r) ⌝ }
+// A result or the end: whether it may stand here.
+fn results_begin(p: Progress) -> HeadLine
+    ensures { λ r. ⌜ ((f : Frame) (l : Lists) → isResult f ≡ true → HeadLineIs f p l r l) ⌝ }
 {
-    if (2 <= p.before) & (p.before <= 5) {
-        if p.before < 5 {
-            let lot = p.lot;
-            let card = card_of(p, critical, lowest, highest, bound, tolerated);
-            return tally::open_refusal(lot, card);
-        }
-        return Refusal::Accepted;
+    let stage = p.stage;
+    if stage.takes(5) {
+        return HeadLine::Results;
     }
-    Refusal::OutOfTurn
+    HeadLine::Refused(Refusal::OutOfTurn)
 }
 
-// A result, where `first` is what the opening is refused with.
-fn result_step(
-    p: Progress,
-    first: Refusal,
-    containers: &mut [u16; MOST_HELD],
-    results: &mut [u16; MOST_HELD],
-    c: u16,
-    x: u16,
-) -> Stepped
-    ensures { λ r. ⌜ ((l : Lists) → Began p (withResults l (now (containers .entry)) (now (results .entry))) first → Steps (λ s. resultStep s c x) p (withResults l (now (containers .entry)) (now (results .entry))) r (withResults l (now (containers .exit)) (now (results .exit)))) ⌝ }
-{
-    if first.number() != 0 {
-        return Stepped {
-            refusal: first,
-            progress: p,
-        };
-    }
-    let lot = p.lot;
-    let second = tally::enter_in(lot, containers, results, p.held, c, x);
-    if second.number() != 0 {
-        return Stepped {
-            refusal: second,
-            progress: p,
-        };
-    }
-    let mut next = p;
-    next.before = 5;
-    next.held = p.held + 1;
-    Stepped {
-        refusal: Refusal::Accepted,
-        progress: next,
-    }
-}
-
-// The end, likewise.
-fn end_step(p: Progress, first: Refusal, n: u16) -> Stepped
-    ensures { λ r. ⌜ ((l : Lists) → Began p l first → Steps (λ s. endStep s n) p l r l) ⌝ }
-{
-    if first.number() != 0 {
-        return Stepped {
-            refusal: first,
-            progress: p,
-        };
-    }
-    let count = n as usize;
-    if count == p.held {
-        let mut next = p;
-        next.before = 6;
-        return Stepped {
-            refusal: Refusal::Accepted,
-            progress: next,
-        };
-    }
-    Stepped {
-        refusal: Refusal::CountWrong,
-        progress: p,
-    }
-}
-
-// What a line with this frame does.
-pub fn step(
+// What a line with this frame does before the first result.
+pub fn head_step(
     p: Progress,
     critical: &mut [u32; CRITICALS],
     lowest: &mut [u16; MOST_ROWS],
     highest: &mut [u16; MOST_ROWS],
     bound: &mut [u16; MOST_ROWS],
     tolerated: &mut [u16; MOST_ROWS],
-    containers: &mut [u16; MOST_HELD],
-    results: &mut [u16; MOST_HELD],
     f: Frame,
-) -> Stepped
-    ensures { λ r. ⌜ Steps (stepOf f) p (listsOf (now (critical .entry)) (now (lowest .entry)) (now (highest .entry)) (now (bound .entry)) (now (tolerated .entry)) (now (containers .entry)) (now (results .entry))) r (listsOf (now (critical .exit)) (now (lowest .exit)) (now (highest .exit)) (now (bound .exit)) (now (tolerated .exit)) (now (containers .exit)) (now (results .exit))) ⌝ }
+) -> HeadLine
+    ensures { λ r. ⌜ HeadLineIs f p (listsOf (now (critical .entry)) (now (lowest .entry)) (now (highest .entry)) (now (bound .entry)) (now (tolerated .entry))) r (listsOf (now (critical .exit)) (now (lowest .exit)) (now (highest .exit)) (now (bound .exit)) (now (tolerated .exit))) ⌝ }
 {
     match f {
-        Frame::Bad => Stepped {
-            refusal: Refusal::BadLine,
-            progress: p,
-        },
+        Frame::Bad => HeadLine::Refused(Refusal::BadLine),
         Frame::Lot {
             attribute: a,
             containers: n,
@@ -343,16 +209,96 @@ pub fn step(
             bound: b,
             tolerated: r,
         } => range_step(p, lowest, highest, bound, tolerated, l, h, b, r),
-        Frame::Result { container: c, x } => {
-            // a copy of its own, so that p need not stand in memory line for line
-            let q = p;
-            let first = opened(q, critical, lowest, highest, bound, tolerated);
-            result_step(p, first, containers, results, c, x)
-        }
-        Frame::End { count: n } => {
-            let q = p;
-            let first = opened(q, critical, lowest, highest, bound, tolerated);
-            end_step(p, first, n)
-        }
+        Frame::Result { container: _, x: _ } => results_begin(p),
+        Frame::End { count: _ } => results_begin(p),
+    }
+}
+
+// Once the lot is opened: the stage, and how many results are held.
+pub struct Results {
+    pub stage: Stage,
+    pub held: usize,
+}
+
+// What a line comes to then.
+pub enum ResultLine {
+    Taken(Results),
+    Refused(Refusal),
+}
+
+// A result: an enter.
+fn enter_step(
+    p: Results,
+    lot: Lot,
+    containers: &mut [u16; MOST_HELD],
+    results: &mut [u16; MOST_HELD],
+    c: u16,
+    x: u16,
+) -> ResultLine
+    ensures { λ r. ⌜ ResultLineIs (frame.Result c x) lot p (now (containers .entry)) (now (results .entry)) r (now (containers .exit)) (now (results .exit)) ⌝ }
+{
+    let stage = p.stage;
+    let held = p.held;
+    if !stage.takes(5) {
+        return ResultLine::Refused(Refusal::OutOfTurn);
+    }
+    let refusal = tally::enter_in(lot, containers, results, held, c, x);
+    if refusal.number() != 0 {
+        return ResultLine::Refused(refusal);
+    }
+    ResultLine::Taken(Results {
+        stage: Stage::Result,
+        held: held + 1,
+    })
+}
+
+// The end: the number of results.
+fn end_step(p: Results, n: u16) -> ResultLine
+    ensures { λ r. ⌜ ((l : Lot) (ks vs : List ℕ) → ResultLineIs (frame.End n) l p ks vs r ks vs) ⌝ }
+{
+    let stage = p.stage;
+    let held = p.held;
+    if !stage.takes(6) {
+        return ResultLine::Refused(Refusal::OutOfTurn);
+    }
+    if n as usize != held {
+        return ResultLine::Refused(Refusal::CountWrong);
+    }
+    ResultLine::Taken(Results {
+        stage: Stage::End,
+        held: held,
+    })
+}
+
+// What a line with this frame does once the lot is opened: no frame of lot or card may stand then.
+pub fn result_step(
+    p: Results,
+    lot: Lot,
+    containers: &mut [u16; MOST_HELD],
+    results: &mut [u16; MOST_HELD],
+    f: Frame,
+) -> ResultLine
+    ensures { λ r. ⌜ ResultLineIs f lot p (now (containers .entry)) (now (results .entry)) r (now (containers .exit)) (now (results .exit)) ⌝ }
+{
+    match f {
+        Frame::Bad => ResultLine::Refused(Refusal::BadLine),
+        Frame::Lot {
+            attribute: _,
+            containers: _,
+        } => ResultLine::Refused(Refusal::OutOfTurn),
+        Frame::Card {
+            factor: _,
+            offset: _,
+            seeds: _,
+        } => ResultLine::Refused(Refusal::OutOfTurn),
+        Frame::Critical { count: _, value: _ } => ResultLine::Refused(Refusal::OutOfTurn),
+        Frame::Range {
+            lowest: _,
+            highest: _,
+            bound: _,
+            tolerated: _,
+        } => ResultLine::Refused(Refusal::OutOfTurn),
+        Frame::Result { container: c, x } => enter_step(p, lot, containers, results, c, x),
+        Frame::End { count: n } => end_step(p, n),
     }
 }

@@ -1,5 +1,5 @@
-pub mod Lines
+pub mod Sized
+pub mod Counting
 pub mod Lengths
-pub mod Rank
 pub mod Ascending
 pub mod Whole

@@ -5,23 +5,10 @@ use borrow.Author.Needs.{needs}
 use Rattle.frames.proofs.card_frame.Statement.{statement}
 use Rattle.frames.proofs.card_frame.Tie as tie
 
-field-requires : tie.Need-field-requires
-field-requires c κs = search needs
-
-field-requires-2 : tie.Need-field-requires-2
-field-requires-2 c κs = search needs
-
-field-requires-3 : tie.Need-field-requires-3
-field-requires-3 c κs = search needs
-
-returns : tie.Need-returns
-unfolding cardFrame
-returns c = simp (eq-eqb _ _ (c .before .before .before .if1 .taken), c .before .before .field .ensures, c .before .field2 .ensures, c .field3 .ensures)
-
-returns-2 : tie.Need-returns-2
-unfolding cardFrame
-returns-2 c = simp (ne-eqb _ _ (c .if1 .left))
-
 pub card-frame-spec : {M : Type 1} → statement M
+unfolding cardFrame
 card-frame-spec =
-    tie.close (tie.spec field-requires field-requires-2 field-requires-3 returns returns-2)
+    tie.close
+    (tie.spec (λ c κs. search needs) (λ c κs. search needs) (λ c κs. search needs)
+    (λ c. simp (eq-eqb _ _ (c .before .before .before .if1 .taken), c .before .before .field .ensures, c .before .field2 .ensures, c .field3 .ensures))
+    (λ c. simp (ne-eqb _ _ (c .if1 .left))))

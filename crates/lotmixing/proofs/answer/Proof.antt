@@ -1,42 +1,30 @@
 -- `lotmixing::answer` meets its contract. Assumes nothing.
+use mathlib.Core.Path.{_≡_, refl}
+use mathlib.Core.List.{List}
+use Prim.Native.Nat.{ℕ}
 use native.Mathlib.Omega.{arith}
+use lib.ListN.{length}
 use Rattle.rules.specs.Text.{text}
-use Rattle.bench.specs.Saying.{verdict}
-use Rattle.bench.proofs.LineLaws.{verdict-most, line-answers}
-use Rattle.lotmixing.proofs.Exact.{answers}
+use Rattle.decimal.specs.Laying.{Laid, LaysAt}
+use Rattle.io.specs.Counts.{Counts}
+use Rattle.program_lines.specs.declared.Said.{Said}
+use Rattle.program_lines.specs.Saying.{linePlaces}
+use Rattle.program_lines.specs.Printing.{mixingLine, mixingPrints}
+use Rattle.program_lines.proofs.LineLaws.{yes-or-no-most, line-answers}
 use borrow.Author.Needs.{needs}
 use Rattle.lotmixing.proofs.answer.Statement.{statement}
 use Rattle.lotmixing.proofs.answer.Tie as tie
 
-said-to-requires : tie.Need-said-to-requires
-said-to-requires c κs = search needs
-
-slice-aggregate-verdict-line : tie.Need-slice-aggregate-verdict-line
-slice-aggregate-verdict-line c = search needs
-
-slice-aggregate-verdict-line-2 : tie.Need-slice-aggregate-verdict-line-2
-slice-aggregate-verdict-line-2 c = search needs
-
-slice-aggregate-verdict-line-3 : tie.Need-slice-aggregate-verdict-line-3
-slice-aggregate-verdict-line-3 c = search needs
-
-verdict-line-requires : tie.Need-verdict-line-requires
-verdict-line-requires c κs = search needs
+line : {said right : Said} {d e : List ℕ} {r : ℕ} → linePlaces ≡ length d → said ≡ right → LaysAt (mixingLine said) 0 d e r
+    → (Laid (mixingLine right) d e r) × (Counts r e)
+line = line-answers _ _ (omega arith) (yes-or-no-most (text "mixable") (text "not mixable") (omega arith) (omega arith))
 
 returns : tie.Need-returns
+unfolding mixingPrints
 returns c =
-    let l =
-    line-answers (text "usage: lotmixing TOLERATED X X ..") (verdict (text "mixable") (text "not mixable")) (omega arith) (verdict-most (text "mixable") (text "not mixable") 127 (omega arith) (omega arith)) _ _ _ (search needs)
-    (c .before .before .before .before .before .said-to .ensures) (c .verdict-line .ensures) in
-    (answers (l .0), l .1)
+    let said = c .before .before .before .before .before .said-to in
+    let laid = c .verdict-line .ensures in
+    (λ words kept. line (search needs) (said .ensures words kept) laid .0, line {said = said .result} (search needs) refl laid .1)
 
 pub answer-spec : {M : Type 1} → statement M
-answer-spec =
-    tie.close
-    (tie.spec
-    said-to-requires
-    slice-aggregate-verdict-line
-    slice-aggregate-verdict-line-2
-    slice-aggregate-verdict-line-3
-    verdict-line-requires
-    returns)
+answer-spec = tie.close (tie.spec (λ c κs. search needs) (λ c. search needs) (λ c. search needs) (λ c. search needs) (λ c κs. search needs) returns)

@@ -11,9 +11,6 @@ use Rattle.sampling.proofs.units.Tie as tie
 at-least-one : (kg : ℕ) → 0 < kg → kg ≤ 100 → 1 ≤ 100 / kg
 at-least-one kg some most = le-div-iff-mul-le {k = kg} {x = 1} {y = 100} some .1 (omega arith)
 
-div-begun-parts : tie.Need-div-begun-parts
-div-begun-parts c = search needs
-
 begun-parts-requires : tie.Need-begun-parts-requires
 begun-parts-requires c κs =
     let one : 1 ≤ 100 / c .args .kilograms = at-least-one _ (c .pre .1 .0) (c .pre .1 .1) in
@@ -24,4 +21,4 @@ unfolding unitsOf
 returns c = c .begun-parts .ensures
 
 pub units-spec : {M : Type 1} → statement M
-units-spec = tie.close (tie.spec div-begun-parts begun-parts-requires returns)
+units-spec = tie.close (tie.spec (λ c. search needs) begun-parts-requires returns)

@@ -1,23 +1,18 @@
 -- `steps::end_step` meets its contract.
-use Rattle.steps.proofs.Taking.{end-unopened, end-reached, end-miscounted}
+use mathlib.Core.Path.{refl}
+use native.Mathlib.Omega.{arith}
 use borrow.Author.Needs.{needs}
+use borrow.Author.Tests.{eq-eqb, ne-eqb}
+use Rattle.rules.specs.Reading.{endStep}
+use Rattle.steps.proofs.HeadLaws.{not-passed, passed}
 use Rattle.steps.proofs.end_step.Statement.{statement}
 use Rattle.steps.proofs.end_step.Tie as tie
 
-number-requires : tie.Need-number-requires
-number-requires c κs = search needs
-
-returns : tie.Need-returns
-returns c =
-    λ l b s. end-unopened _ _ s _ b _ (c .before .number .ensures) _ (c .if1 .taken)
-
-returns-2 : tie.Need-returns-2
-returns-2 c =
-    λ l b s. end-reached _ _ s _ b _ (c .before .before .before .number .ensures) (c .before .before .if1 .left) _ (c .if2 .taken)
-
-returns-3 : tie.Need-returns-3
-returns-3 c =
-    λ l b s. end-miscounted _ _ s _ b _ (c .before .before .before .number .ensures) (c .before .before .if1 .left) _ (c .if2 .left)
-
 pub end-step-spec : {M : Type 1} → statement M
-end-step-spec = tie.close (tie.spec number-requires returns returns-2 returns-3)
+unfolding endStep
+end-step-spec =
+    tie.close
+    (tie.spec (λ c κs. search needs)
+    (λ c l ks vs. record { right = λ d last o. simp (not-passed (c .before .takes .ensures) (c .if1 .taken)); containers = refl; results = refl })
+    (λ c l ks vs. let n = c .before .before .before .args .n in let held = c .before .before .before .args .p .held in let may = passed (c .before .before .takes .ensures) (c .before .if1 .left) in record { right = λ d last o. simp (may, o .opened, ne-eqb n held (λ q. omega arith)); containers = refl; results = refl })
+    (λ c l ks vs. let n = c .before .before .before .args .n in let held = c .before .before .before .args .p .held in let may = passed (c .before .before .takes .ensures) (c .before .if1 .left) in record { result = refl; right = λ d last o. simp (may, o .opened, eq-eqb n held (omega arith)); proper = λ d o. record { opened = refl; sound = o .sound } }))

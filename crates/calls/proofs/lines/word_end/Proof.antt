@@ -10,44 +10,8 @@ Inv-loop text at i₀ i = (at ≤ i) × (i ≤ length text)
 abbrev μ-loop : tie.MeasureT-loop
 μ-loop text at i₀ i = length text - i
 
--- src/lines.rt:33:5
-loop-holds : tie.Need-loop-holds Inv-loop μ-loop
-loop-holds c = search needs
-
--- src/lines.rt:34:12
-shared-slice-read-if1 : tie.Need-shared-slice-read-if1 Inv-loop μ-loop
-shared-slice-read-if1 c = search needs
-
--- src/lines.rt:35:13
-returns : tie.Need-returns Inv-loop μ-loop
-returns c = search needs
-
--- src/lines.rt:37:9
-add-i : tie.Need-add-i Inv-loop μ-loop
-add-i c = search needs
-
--- src/lines.rt:33:5
-loop-less : tie.Need-loop-less Inv-loop μ-loop
-loop-less c = search needs
-
--- src/lines.rt:33:5
-loop-again : tie.Need-loop-again Inv-loop μ-loop
-loop-again c = search needs
-
--- src/lines.rt:28:1
-returns-2 : tie.Need-returns-2 Inv-loop μ-loop
-returns-2 c = search needs
-
 pub word-end-spec : {M : Type 1} → statement M
 word-end-spec =
     tie.close
-    (tie.spec
-    Inv-loop
-    μ-loop
-    loop-holds
-    shared-slice-read-if1
-    returns
-    add-i
-    loop-less
-    loop-again
-    returns-2)
+    (tie.spec Inv-loop μ-loop (λ c. search needs) (λ c. search needs) (λ c. search needs) (λ c. search needs) (λ c. search needs) (λ c. search needs)
+    (λ c. search needs))

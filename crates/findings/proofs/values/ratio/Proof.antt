@@ -4,24 +4,6 @@ use borrow.Author.Needs.{needs}
 use Rattle.findings.proofs.values.ratio.Statement.{statement}
 use Rattle.findings.proofs.values.ratio.Tie as tie
 
-enum-told : tie.Need-enum-told
-enum-told c = search needs
-
-percentages-requires : tie.Need-percentages-requires
-percentages-requires c κs = search needs
-
-enum-told-2 : tie.Need-enum-told-2
-enum-told-2 c = search needs
-
-percentages-requires-2 : tie.Need-percentages-requires-2
-percentages-requires-2 c κs = search needs
-
-enum-told-3 : tie.Need-enum-told-3
-enum-told-3 c = search needs
-
-counts-requires : tie.Need-counts-requires
-counts-requires c κs = search needs
-
 returns : tie.Need-returns
 unfolding ratio
 returns c = rw (c .before .enum-told .given .1) (c .percentages .ensures)
@@ -37,13 +19,5 @@ returns-3 c = rw (c .before .enum-told3 .given .1) (c .counts .ensures)
 pub ratio-spec : {M : Type 1} → statement M
 ratio-spec =
     tie.close
-    (tie.spec
-    enum-told
-    percentages-requires
-    enum-told-2
-    percentages-requires-2
-    enum-told-3
-    counts-requires
-    returns
-    returns-2
-    returns-3)
+    (tie.spec (λ c. search needs) (λ c κs. search needs) (λ c. search needs) (λ c κs. search needs) (λ c. search needs) (λ c κs. search needs) returns
+    returns-2 returns-3)

@@ -1,83 +1,45 @@
--- `findings::values::tolerated_for` meets its contract: after k turns, the first of the first k rows that serves. Assumes nothing.
+-- `findings::values::tolerated_for` meets its contract: after k turns, none of the first k rows serves. Assumes nothing.
 use Prim.Native.Nat.{_-_, _≤_}
-use mathlib.Core.Path.{_≡_, refl}
-use native.Mathlib.Omega.{arith}
+use mathlib.Core.Path.{_≡_, sym, _∙_}
 use Rattle.rules.specs.Figures.{toleratedUpto}
-use Rattle.findings.specs.Findings.{limitOf}
-use Rattle.findings.proofs.ValueLaws.{row-more}
+use Rattle.rules.specs.declared.Limit.the-variants.{Absent}
+use Rattle.findings.proofs.ValueLaws.{none-yet, row-passed, row-found}
+use native.Mathlib.Omega.{arith}
 use Rattle.findings.proofs.values.tolerated_for.Statement.{statement}
 use Rattle.findings.proofs.values.tolerated_for.Tie as tie
 
 abbrev Inv-loop : tie.InvT-loop
-Inv-loop n s c l₀ k₀ l k = (k ≤ c .rows) × (limitOf l ≡ toleratedUpto c n s k)
+Inv-loop n s c k₀ k = (k ≤ c .rows) × (Absent ≡ toleratedUpto c n s k)
 
 abbrev μ-loop : tie.MeasureT-loop
-μ-loop n s c l₀ k₀ l k = c .rows - k
+μ-loop n s c k₀ k = c .rows - k
 
 loop-holds : tie.Need-loop-holds Inv-loop μ-loop
-unfolding toleratedUpto
-loop-holds c = (omega arith, refl)
+loop-holds c = (omega arith, none-yet _ _ _)
 
-mul-tolerated-by : tie.Need-mul-tolerated-by Inv-loop μ-loop
-mul-tolerated-by c = omega arith
+serves-requires : tie.Need-serves-requires Inv-loop μ-loop
+serves-requires c κs = tt
 
-element-copy-out-tolerated-by : tie.Need-element-copy-out-tolerated-by Inv-loop μ-loop
-element-copy-out-tolerated-by c = omega arith
-
-mul-tolerated-by-2 : tie.Need-mul-tolerated-by-2 Inv-loop μ-loop
-mul-tolerated-by-2 c = omega arith
-
-element-copy-out-tolerated-by-2 : tie.Need-element-copy-out-tolerated-by-2 Inv-loop μ-loop
-element-copy-out-tolerated-by-2 c = omega arith
-
-mul-tolerated-by-3 : tie.Need-mul-tolerated-by-3 Inv-loop μ-loop
-mul-tolerated-by-3 c = omega arith
-
-element-copy-out-tolerated-by-3 : tie.Need-element-copy-out-tolerated-by-3 Inv-loop μ-loop
-element-copy-out-tolerated-by-3 c = omega arith
-
-mul-tolerated-by-4 : tie.Need-mul-tolerated-by-4 Inv-loop μ-loop
-mul-tolerated-by-4 c = omega arith
-
-element-copy-out-tolerated-by-4 : tie.Need-element-copy-out-tolerated-by-4 Inv-loop μ-loop
-element-copy-out-tolerated-by-4 c = omega arith
-
-tolerated-by-requires : tie.Need-tolerated-by-requires Inv-loop μ-loop
-tolerated-by-requires c κs = tt
-
-or-next-requires : tie.Need-or-next-requires Inv-loop μ-loop
-or-next-requires c κs = tt
-
-add-k : tie.Need-add-k Inv-loop μ-loop
-add-k c = omega arith
-
-loop-less : tie.Need-loop-less Inv-loop μ-loop
-loop-less c = omega arith
-
-loop-again : tie.Need-loop-again Inv-loop μ-loop
-loop-again c = (omega arith, row-more _ _ _ _ _ _ _ (c .before .before .before .before .before .before .before .loop .inv .1) (c .before .tolerated-by .ensures) (c .or-next .ensures))
+limit-at-requires : tie.Need-limit-at-requires Inv-loop μ-loop
+limit-at-requires c κs = tt
 
 returns : tie.Need-returns Inv-loop μ-loop
-returns c = let e : c .before .loop .k ≡ c .before .before .args .t1 .rows = omega arith in cc
+returns c =
+    let test = c .before .before .before in
+    let serves = sym (test .serves .ensures) ∙ c .before .before .if1 .taken in
+    c .limit-at .ensures ∙ row-found _ _ _ _ (test .before .before .before .before .before .loop .inv .1) serves (omega arith)
+
+loop-again : tie.Need-loop-again Inv-loop μ-loop
+loop-again c =
+    let test = c .before in
+    (omega arith, row-passed _ _ _ _ (test .before .before .before .before .before .loop .inv .1) (sym (test .serves .ensures) ∙ c .if1 .left))
+
+returns-2 : tie.Need-returns-2 Inv-loop μ-loop
+returns-2 c = let e : c .before .loop .k ≡ c .before .before .args .t1 .rows = omega arith in rw e at (c .before .loop .inv .1)
 
 pub tolerated-for-spec : {M : Type 1} → statement M
 tolerated-for-spec =
     tie.close
-    (tie.spec
-    Inv-loop
-    μ-loop
-    loop-holds
-    mul-tolerated-by
-    element-copy-out-tolerated-by
-    mul-tolerated-by-2
-    element-copy-out-tolerated-by-2
-    mul-tolerated-by-3
-    element-copy-out-tolerated-by-3
-    mul-tolerated-by-4
-    element-copy-out-tolerated-by-4
-    tolerated-by-requires
-    or-next-requires
-    add-k
-    loop-less
-    loop-again
-    returns)
+    (tie.spec Inv-loop μ-loop loop-holds (λ c. omega arith) (λ c. omega arith) (λ c. omega arith) (λ c. omega arith) (λ c. omega arith)
+    (λ c. omega arith) serves-requires (λ c. omega arith) (λ c. omega arith) limit-at-requires returns (λ c. omega arith) (λ c. omega arith)
+    loop-again returns-2)

@@ -1,60 +1,29 @@
 -- `judge::refusing::refused_line` meets its contract.
+use borrow.Author.Needs.{needs}
 use Rattle.rules.specs.Printing.{refusedLine}
 use Rattle.decimal.proofs.LayingLaws.{piece, then-piece, a-line}
-use borrow.Author.Needs.{needs}
 use Rattle.judge.proofs.refusing.refused_line.Statement.{statement}
 use Rattle.judge.proofs.refusing.refused_line.Tie as tie
-
-slice-aggregate-bytes : tie.Need-slice-aggregate-bytes
-slice-aggregate-bytes c = search needs
-
-bytes-requires : tie.Need-bytes-requires
-bytes-requires c κs = search needs
-
-number-requires : tie.Need-number-requires
-number-requires c κs = search needs
-
-slice-aggregate-bytes-2 : tie.Need-slice-aggregate-bytes-2
-slice-aggregate-bytes-2 c = search needs
-
-bytes-requires-2 : tie.Need-bytes-requires-2
-bytes-requires-2 c κs = search needs
-
-number-requires-2 : tie.Need-number-requires-2
-number-requires-2 c κs = search needs
-
-slice-aggregate-bytes-3 : tie.Need-slice-aggregate-bytes-3
-slice-aggregate-bytes-3 c = search needs
-
-bytes-requires-3 : tie.Need-bytes-requires-3
-bytes-requires-3 c κs = search needs
-
-same-length : tie.Need-same-length
-same-length c = search needs
 
 returns : tie.Need-returns
 unfolding refusedLine
 returns c =
-    a-line _ _ _ _
-    (then-piece _ _ _ _ _ _ _ _
-    (then-piece _ _ _ _ _ _ _ _
-    (then-piece _ _ _ _ _ _ _ _
-    (then-piece _ _ _ _ _ _ _ _ (piece _ _ _ _ _ (c .before .before .before .before .before .before .before .before .before .before .before .before .before .before .before .before .before .before .before .before .bytes .ensures) (c .before .before .before .before .before .before .before .before .before .before .before .before .before .before .before .before .before .before .before .before .bytes .kept .0)) (c .before .before .before .before .before .before .before .before .before .before .before .before .before .before .before .before .number .ensures) (c .before .before .before .before .before .before .before .before .before .before .before .before .before .before .before .before .number .kept .0))
-    (c .before .before .before .before .before .before .before .before .before .before .before .bytes2 .ensures) (c .before .before .before .before .before .before .before .before .before .before .before .bytes2 .kept .0))
-    (c .before .before .before .before .before .before .before .number2 .ensures) (c .before .before .before .before .before .before .before .number2 .kept .0))
-    (c .before .before .bytes3 .ensures) (c .before .before .bytes3 .kept .0))
+    let p₅ = c .before .before .bytes3 in
+    let c₄ = c .before .before .before .before .before .before .before in
+    let p₄ = c₄ .number2 in
+    let c₃ = c₄ .before .before .before .before in
+    let p₃ = c₃ .bytes2 in
+    let c₂ = c₃ .before .before .before .before .before in
+    let p₂ = c₂ .number in
+    let p₁ = c₂ .before .before .before .before .bytes in
+    let first = piece _ _ _ _ _ (p₁ .ensures) (p₁ .kept .0) in
+    let second = then-piece _ _ _ _ _ _ _ _ first (p₂ .ensures) (p₂ .kept .0) in
+    let third = then-piece _ _ _ _ _ _ _ _ second (p₃ .ensures) (p₃ .kept .0) in
+    let fourth = then-piece _ _ _ _ _ _ _ _ third (p₄ .ensures) (p₄ .kept .0) in
+    a-line _ _ _ _ (then-piece _ _ _ _ _ _ _ _ fourth (p₅ .ensures) (p₅ .kept .0))
 
 pub refused-line-spec : {M : Type 1} → statement M
 refused-line-spec =
     tie.close
-    (tie.spec
-    slice-aggregate-bytes
-    bytes-requires
-    number-requires
-    slice-aggregate-bytes-2
-    bytes-requires-2
-    number-requires-2
-    slice-aggregate-bytes-3
-    bytes-requires-3
-    same-length
-    returns)
+    (tie.spec (λ c. search needs) (λ c κs. search needs) (λ c κs. search needs) (λ c. search needs) (λ c κs. search needs) (λ c κs. search needs)
+    (λ c. search needs) (λ c κs. search needs) (λ c. search needs) returns)

@@ -7,6 +7,7 @@ use Prim.Native.Nat.{ℕ, zero, suc, _+_, _-_, _≤_, _<_}
 use native.Mathlib.Nat.{le-of-suc-le-suc, not-suc-le-zero, eq-or-lt-of-le}
 use native.Mathlib.Omega.{arith}
 use borrow.Author.Count.{below-none, below-more}
+use borrow.Author.Needs.{needs}
 use borrow.Author.Tests.{le-leb, lt-leb}
 use lib.ListN.{length, getD, List·getD-map}
 use Rattle.rules.specs.Tolerance.{row, table14H, differenceFor}
@@ -26,13 +27,6 @@ at i = List·getD-map coded table14H i (row 0 0)
 
 abbrev topOf : List rules.Row → ℕ → ℕ
 topOf l i = (getD l i (row 0 0)) .top
-
--- the top of the code's row at i
-abbrev codedTop : ℕ → ℕ
-codedTop i = (getD (map coded table14H) i (coded (row 0 0))) .top
-
-top-at : (i : ℕ) → codedTop i ≡ topOf table14H i
-top-at i = ap (λ (r : Row). r .top) (at i)
 
 -- the rows before i have tops below the average
 abbrev Below : List rules.Row → ℕ → ℕ → Type 0
@@ -56,36 +50,26 @@ record Counted (average i below : ℕ) : Type 0 where
   next : below < i → average ≤ topOf table14H below
 
 module _ (average i below : ℕ) (counted : Counted average i below) where
-  module _ (more : i < 57) where
-    -- as the tops rise, where the one at i is below the average so are all before it
-    one-more : codedTop i < average → Counted average (i + 1) (below + 1)
-    one-more top =
-        let low : topOf table14H i < average = omega (arith, top-at i) in
-        let all : below ≡ i =
-        ⊎-elim
-        (λ e. e)
-        (λ h. absurd (omega (arith, counted .next h, tops-rise below i h (omega arith))))
-        (eq-or-lt-of-le (counted .within .0))
-        in
-        record {
-          within = omega arith;
-          low = below-more (λ (k : ℕ). topOf table14H k < average) below (counted .low) (rw all low);
-          next = λ h. absurd (omega arith);
-        }
+  -- where the row at i is high enough, so is the one behind the rows counted
+  reached : average ≤ topOf table14H i → average ≤ topOf table14H below
+  reached high = ⊎-elim (λ e. rw e high) (counted .next) (eq-or-lt-of-le (counted .within .0))
 
-    no-more : average ≤ codedTop i → Counted average (i + 1) below
-    no-more top =
-        let high : average ≤ topOf table14H i = omega (arith, top-at i) in
-        record {
-          within = omega arith;
-          low = counted .low;
-          next = λ h. ⊎-elim (λ e. rw e high) (λ g. counted .next g) (eq-or-lt-of-le (counted .within .0));
-        }
+  -- as the tops rise, where the one at i is below the average so are all before it
+  one-more : i < 57 → topOf table14H i < average → Counted average (i + 1) (below + 1)
+  one-more more low =
+      let all : below ≡ i =
+      ⊎-elim (λ e. e) (λ h. absurd (omega (arith, counted .next h, tops-rise below i h (omega arith)))) (eq-or-lt-of-le (counted .within .0)) in
+      record {
+        within = omega arith;
+        low = below-more (λ (k : ℕ). topOf table14H k < average) below (counted .low) (rw all low);
+        next = λ h. absurd (omega arith);
+      }
+
+  no-more : i < 57 → average ≤ topOf table14H i → Counted average (i + 1) below
+  no-more more high = record { within = omega arith; low = counted .low; next = λ h. reached high }
 
   found : i ≡ 57 → average ≤ 501 → differenceFor table14H average ≡ (getD table14H below (row 0 0)) .tolerated
-  found last inside =
-      first-row table14H average below (omega arith) (counted .low)
-      (⊎-elim (λ e. let end : below ≡ 57 = omega arith in rw end inside) (λ g. counted .next g) (eq-or-lt-of-le (counted .within .0)))
+  found last inside = first-row table14H average below (omega arith) (counted .low) (reached (rw last inside))
 
 abbrev Inv-loop : tie.InvT-loop
 Inv-loop average rows below₀ i₀ below i = Counted average i below
@@ -96,36 +80,13 @@ abbrev μ-loop : tie.MeasureT-loop
 loop-holds : tie.Need-loop-holds Inv-loop μ-loop
 loop-holds c = record { within = omega arith; low = below-none _; next = λ h. absurd (not-suc-le-zero h) }
 
-mul-if1 : tie.Need-mul-if1 Inv-loop μ-loop
-mul-if1 c = omega arith
-
-element-copy-out-if1 : tie.Need-element-copy-out-if1 Inv-loop μ-loop
-element-copy-out-if1 c = omega arith
-
-add-below : tie.Need-add-below Inv-loop μ-loop
-add-below c = omega arith
-
-add-i : tie.Need-add-i Inv-loop μ-loop
-add-i c = omega arith
-
-loop-less : tie.Need-loop-less Inv-loop μ-loop
-loop-less c = omega arith
-
 loop-again : tie.Need-loop-again Inv-loop μ-loop
 loop-again c =
+    let top = ap (λ (r : Row). r .top) (at (c .before .before .loop .i)) in
     ⊎-elim
-    (λ w. rw (w .1) (one-more _ _ _ (c .before .before .loop .inv) (c .before .loop-test .taken) (w .0 .taken)))
-    (λ w. rw (w .1) (no-more _ _ _ (c .before .before .loop .inv) (c .before .loop-test .taken) (w .0 .left)))
+    (λ w. rw (w .1) (one-more _ _ _ (c .before .before .loop .inv) (c .before .loop-test .taken) (omega (arith, top, w .0 .taken))))
+    (λ w. rw (w .1) (no-more _ _ _ (c .before .before .loop .inv) (c .before .loop-test .taken) (omega (arith, top, w .0 .left))))
     (c .if1 .came)
-
-cast-result : tie.Need-cast-result Inv-loop μ-loop
-cast-result c = omega arith
-
-mul-result : tie.Need-mul-result Inv-loop μ-loop
-mul-result c = omega arith
-
-element-copy-out-result : tie.Need-element-copy-out-result Inv-loop μ-loop
-element-copy-out-result c = omega arith
 
 returns : tie.Need-returns Inv-loop μ-loop
 returns c =
@@ -135,17 +96,5 @@ returns c =
 pub difference-for-spec : {M : Type 1} → statement M
 difference-for-spec =
     tie.close
-    (tie.spec
-    Inv-loop
-    μ-loop
-    loop-holds
-    mul-if1
-    element-copy-out-if1
-    add-below
-    add-i
-    loop-less
-    loop-again
-    cast-result
-    mul-result
-    element-copy-out-result
-    returns)
+    (tie.spec Inv-loop μ-loop loop-holds (λ c. search needs) (λ c. search needs) (λ c. search needs) (λ c. search needs) (λ c. search needs)
+    loop-again (λ c. search needs) (λ c. search needs) (λ c. search needs) returns)

@@ -1,0 +1,66 @@
+-- The tally and the ledger after the same calls. Assumes nothing.
+use Prim.Native.Nat.{ℕ}
+use native.Mathlib.Decide.{ℕ-discrete}
+use mathlib.Core.Path.{_≡_, refl, sym, ap, ap₂, _∙_, subst}
+use mathlib.Core.List.{List, _∷_}
+use Rattle.rules.specs.Numbers.{numberOf}
+use Rattle.rules.specs.Ledger.{Ledger, Judged, freshLedger, openOn, enterOn, withdrawOn, joinOn}
+use Rattle.rules.specs.Cards.{openNumber}
+use Rattle.rules.specs.declared.Lot.{Lot}
+use Rattle.rules.specs.declared.Card.{Card}
+use Rattle.tally.specs.declared.Tally.{Tally}
+use Rattle.tally.specs.declared.Outcome.{Outcome}
+use Rattle.tally.specs.View.{view, stored}
+use Rattle.tally.specs.Calls.{Sound, Opened, answer}
+use Rattle.tally.proofs.Answer.{fresh-sound}
+use Rattle.history.specs.Calls.{Calls, judge, ledger, answers}
+use Rattle.history.specs.Run.{Run, begun, taken, opened, entered, withdrawn, joined, read}
+use Rattle.history.proofs.Sheets.{made-ledger, made-answers}
+
+-- the tally and the ledger after the same calls
+pub record Agrees (cs : Calls) (ns : List ℕ) (t : Tally) : Type 0 where
+  pub same : view t ≡ ledger cs
+  pub judged : ns ≡ answers cs
+  pub sound : Sound t
+
+-- a refused open leaves a sound tally sound
+open-sound : (t : Tally) (l : Lot) (c : Card) (r : Outcome) → Sound t → Opened t l c r → Sound (r .tally)
+open-sound t l c r s o = go (ℕ-discrete (numberOf (r .refusal)) 0)
+  where
+    go : Dec (numberOf (r .refusal) ≡ 0) → Sound (r .tally)
+    go (yes e) = o .sound e
+    go (no h) = subst Sound (sym (o .kept h)) s
+
+-- one more call, answered as the ledger judges it
+further : {ns ms : List ℕ} (r : Outcome) (j : Judged) → answer r ≡ j → ns ≡ ms → (view (r .tally) ≡ j .ledger) × (numberOf (r .refusal) ∷ ns ≡ j .number ∷ ms)
+further r j e p = (ap (λ (i : Judged). i .ledger) e, ap₂ _∷_ (ap (λ (i : Judged). i .number) e) p)
+
+-- an accepted open leaves nothing of what was there
+open-any : (g h : Ledger) (l : Lot) (c : Card) → openNumber l c ≡ 0 → openOn g l c ≡ openOn h l c
+open-any g h l c e = simp e
+
+pub agrees : {cs : Calls} {ns : List ℕ} {t : Tally} → Run cs ns t → Agrees cs ns t
+unfolding judge answers stored
+agrees (begun f) = record { same = ap view f; judged = refl; sound = rw f fresh-sound }
+agrees (taken {l = l} {c = c} {r = r} t o z) =
+    let n : openNumber l c ≡ 0 = sym (ap (λ (i : Judged). i .number) (o .right)) ∙ z in
+    let e = further r _ (o .right ∙ open-any (view t) freshLedger l c n) refl in
+    record { same = e .0; judged = e .1; sound = o .sound z }
+agrees (opened {l = l} {c = c} {r = r} t u o) =
+    let i = agrees u in
+    let e = further r _ (o .right ∙ ap (λ (g : Ledger). openOn g l c) (i .same)) (i .judged) in
+    record { same = e .0; judged = e .1; sound = open-sound t l c r (i .sound) o }
+agrees (entered {k = k} {x = x} {r = r} t u o) =
+    let i = agrees u in
+    let e = further r _ (o .right (i .sound) ∙ ap (λ (g : Ledger). enterOn g k x) (i .same)) (i .judged) in
+    record { same = e .0; judged = e .1; sound = o .sound (i .sound) }
+agrees (withdrawn {k = k} {r = r} t u o) =
+    let i = agrees u in
+    let e = further r _ (o .right (i .sound) ∙ ap (λ (g : Ledger). withdrawOn g k) (i .same)) (i .judged) in
+    record { same = e .0; judged = e .1; sound = o .sound (i .sound) }
+agrees (joined {r = r} t o u v j) =
+    let i = agrees u in
+    let h = agrees v in
+    let e = further r _ (j .right (i .sound, h .sound) ∙ ap₂ (λ (f g : Ledger). joinOn f g) (i .same) (h .same)) (i .judged) in
+    record { same = e .0; judged = e .1; sound = j .sound (i .sound, h .sound) }
+agrees (read κ sheet x a m) = record { same = sym (made-ledger m); judged = made-answers m; sound = x .sound }

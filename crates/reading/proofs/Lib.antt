@@ -1,6 +1,0 @@
-pub mod Going
-pub mod Falling
-pub mod Prefix
-pub mod Spelt
-pub mod Ready
-pub mod Longest

@@ -1,0 +1,10 @@
+-- `Samples::answered` meets its contract.
+use borrow.Author.Needs.{needs}
+use Rattle.rules.proofs.Samples.answered.Statement.{statement}
+use Rattle.rules.proofs.Samples.answered.Tie as tie
+
+pub answered-spec : {M : Type 1} → statement M
+answered-spec =
+    tie.close
+    (tie.spec (λ c. search needs) (λ c κs. search needs) (λ c. search needs) (λ c κs. search needs)
+    (λ c. rw (c .before .before .self .given .1) (c .gives .ensures)) (λ c. rw (c .before .enum-told .given .1) (c .refused .ensures)))

@@ -1,0 +1,36 @@
+// What may stand next in a sheet, and whether it may end.
+ghost use mathlib.Core.Path.{_≡_};
+ghost use Rattle.rules.specs.Stages.{mayStand, isEnded};
+use crate::Stage;
+
+impl Stage {
+    // Whether a frame of this kind may stand next.
+    pub fn takes(self, kind: u16) -> bool
+        ensures { λ r. ⌜ r ≡ mayStand kind self ⌝ }
+    {
+        match self {
+            Stage::Start => kind == 1,
+            Stage::Lot => kind == 2,
+            Stage::Card => (kind == 3) | ((kind == 4) | ((kind == 5) | (kind == 6))),
+            Stage::Critical => (kind == 3) | ((kind == 4) | ((kind == 5) | (kind == 6))),
+            Stage::Range => (kind == 4) | ((kind == 5) | (kind == 6)),
+            Stage::Result => (kind == 5) | (kind == 6),
+            Stage::End => false,
+        }
+    }
+
+    // Whether the sheet may end here: 06 was read.
+    pub fn is_ended(self) -> bool
+        ensures { λ r. ⌜ r ≡ isEnded self ⌝ }
+    {
+        match self {
+            Stage::Start => false,
+            Stage::Lot => false,
+            Stage::Card => false,
+            Stage::Critical => false,
+            Stage::Range => false,
+            Stage::Result => false,
+            Stage::End => true,
+        }
+    }
+}
