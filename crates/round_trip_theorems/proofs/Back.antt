@@ -28,7 +28,7 @@ use Rattle.round_trip_theorems.proofs.Spelled.{lot-spells, card-spells}
 use Rattle.round_trip_theorems.proofs.Reached.{Reaches, reach-then, reach-line}
 use Rattle.round_trip_theorems.proofs.Writable.{Writable, open-cut, yields}
 use Rattle.round_trip_theorems.proofs.CardLines.{filledTo, filledTo-all, filledTo-front, cardAt, CardRead, CriticalsRead, criticals-reach, rows-reach}
-use Rattle.round_trip_theorems.proofs.ResultLines.{acceptedAs, upto-all, upto-none, ledgerAt, ResultsRead, Ended, results-reach, end-reach}
+use Rattle.round_trip_theorems.proofs.ResultLines.{acceptedAs, upto-all, upto-none, ledgerAt, ResultsReadBack, Ended, results-reach, end-reach}
 
 offset-few : (a : ℕ) (h : Head) → headGood a h ≡ true → h .offset ≤ mostOffset
 offset-few a h e =
@@ -62,7 +62,7 @@ module _ (g : Ledger) (w : Writable g) where
   opens : openNumber l read ≡ 0
   opens = sym (open-cut l read) ∙ ap (openNumber l) card-is ∙ w .carded .opens
 
-  begins : (u : State) → CardRead l read u → ResultsRead l read f 0 u
+  begins : (u : State) → CardRead l read u → ResultsReadBack l read f 0 u
   unfolding total
   begins u r =
       let none = ap (λ (q : Contents). acceptedAs (withContents (opened l read) q)) (sym (upto-none f (w .placed .none))) in
@@ -99,7 +99,7 @@ module _ (g : Ledger) (w : Writable g) where
   all-reach : Reaches (sheetOf g) atStart (Ended l read f)
   unfolding sheetOf
   all-reach =
-      reach-then (ResultsRead l read f (containers g)) _ _ _ atStart
+      reach-then (ResultsReadBack l read f (containers g)) _ _ _ atStart
       (reach-then (CardRead l read) _ _ _ atStart
       (reach-then (CriticalsRead l c criticals) _ _ _ atStart
       (reach-then (CriticalsRead l c 0) _ _ _ atStart

@@ -19,7 +19,7 @@ use Rattle.rules.specs.declared.Stage.the-variants as stage
 use Rattle.rules.specs.declared.Frame.the-variants as frame
 use Rattle.rules.proofs.ContentLaws.{put-same, put-other, put-self, total-put, total-none}
 use Rattle.round_trip_theorems.proofs.Spelled.{result-spells, end-spells}
-use Rattle.round_trip_theorems.proofs.Writable.{Placed}
+use Rattle.round_trip_theorems.proofs.Writable.{WritableResults}
 use Rattle.round_trip_theorems.proofs.Reached.{Reaches, reach-none, reach-then, reach-line}
 
 -- ---- what f has at the containers up to n
@@ -90,7 +90,7 @@ enter-good g c x z h l e r =
 abbrev pub ledgerAt : Lot → Card → Contents → ℕ → Ledger
 ledgerAt t c f n = withContents (opened t c) (upto f n)
 
-pub record ResultsRead (t : Lot) (c : Card) (f : Contents) (n : ℕ) (s : State) : Type 0 where
+pub record ResultsReadBack (t : Lot) (c : Card) (f : Contents) (n : ℕ) (s : State) : Type 0 where
   pub begins : begun s ≡ acceptedAs (ledgerAt t c f n)
   pub count : s .results ≡ total one n f
   pub turns : (mayStand 5 (s .stage) ≡ true) × (mayStand 6 (s .stage) ≡ true)
@@ -99,9 +99,9 @@ pub record ResultsRead (t : Lot) (c : Card) (f : Contents) (n : ℕ) (s : State)
 abbrev pub Ended : Lot → Card → Contents → State → Type 0
 Ended t c f s = (isEnded (s .stage) ≡ true) × (s .ledger ≡ ledgerAt t c f (t .containers))
 
-module _ (t : Lot) (c : Card) (f : Contents) (few : t .containers ≤ widest) (w : Placed (t .containers) f) where
+module _ (t : Lot) (c : Card) (f : Contents) (few : t .containers ≤ widest) (w : WritableResults (t .containers) f) where
   abbrev Read : ℕ → State → Type 0
-  Read n s = ResultsRead t c f n s
+  Read n s = ResultsReadBack t c f n s
 
   one-place : (n : ℕ) → n < t .containers → (u : State) → Read n u → Reaches (placeLine (suc n) (f (suc n))) u (Read (suc n))
   unfolding resultStep

@@ -40,7 +40,7 @@ pub record Carded (l : Lot) (c : Card) : Type 0 where
   pub narrow : (i : ℕ) → i < c .rows → getD (c .tolerated) i 0 ≤ widest
 
 -- a map of the containers 1 to n
-pub record Placed (n : ℕ) (f : Contents) : Type 0 where
+pub record WritableResults (n : ℕ) (f : Contents) : Type 0 where
   pub none : f 0 ≡ free
   pub outside : (k : ℕ) → n < k → f k ≡ free
   pub low : (k x : ℕ) → f k ≡ holds x → x ≤ highestX
@@ -48,7 +48,7 @@ pub record Placed (n : ℕ) (f : Contents) : Type 0 where
 
 pub record Writable (g : Ledger) : Type 0 where
   pub carded : Carded (g .lot) (g .card)
-  pub placed : Placed (containers g) (g .contents)
+  pub placed : WritableResults (containers g) (g .contents)
 
 -- ---- lot and card
 -- an open does not look past the last row
