@@ -63,13 +63,13 @@ pub fn withdraw(t: Tally, numbers: &[u32; MOST_NUMBERS]) -> Outcome {
 // report TALLY: its text, or the refusal.
 pub fn report(t: Tally) {
     let mut buf = io::buffer();
-    let text = report::report(t, &mut buf).text_size();
+    let text = answers::reported_size(report::report(t, &mut buf));
     print::text(&buf, text);
 }
 
 // write TALLY: its sheet, or the refusal.
 pub fn write(t: Tally) {
     let mut buf = io::buffer();
-    let text = writer::write(t, &mut buf).text_size();
+    let text = answers::written_size(writer::write(t, &mut buf));
     print::text(&buf, text);
 }

@@ -1,7 +1,6 @@
 // Sheets from files, each held against what lotreport must print for it.
 use crate::Tried;
 use crate::files;
-use rules::checks;
 
 // The bytes that lotreport reads.
 const READ: usize = 4096;
@@ -52,7 +51,7 @@ fn begins(buf: &[u8], n: usize, text: &[u8]) -> bool {
 
 // Whether a sheet is judged as a text says.
 fn judged_as(sheet: &[u8], expected: &[u8], printed: &mut [u8]) -> bool {
-    let text = judge::judge(sheet, printed).text_size();
+    let text = answers::printed_size(judge::judge(sheet, printed));
     if text.number != 0 {
         return false;
     }

@@ -1,2 +1,3 @@
+pub mod FoundLaws
 pub mod ReportableLaws
 pub mod ValueLaws

@@ -1,62 +1,25 @@
--- Limits, verdicts, and the bounds of the numbers on the way to H. Assumes nothing.
-use Prim.Native.Nat.{ℕ, zero, suc, _+_, _-_, _*_, _^_, _≤_, _<_}
+-- The bounds of the numbers on the way to H, and H from its division. Assumes nothing.
+use Prim.Native.Nat.{ℕ, _+_, _-_, _*_, _^_, _≤_, _<_}
 use native.Mathlib.Omega.{arith}
-use native.Mathlib.Numerals.{add-one}
-use native.Mathlib.Decide.{decLe}
 use native.Mathlib.Nat.{mul-le-mul, mul-le-mul-right, div-le-self, div-lt-iff-lt-mul}
 use mathlib.Core.Path.{_≡_, refl, ap}
 use mathlib.Core.Bool.{Bool, true, false}
-use lib.ListN.{getD}
 use Rattle.rules.specs.Limits.{highestX, mostFactor, mostSeeds}
 use Rattle.rules.specs.Attributes.{isVoid}
-use Rattle.rules.specs.Figures.{deviation, ratio, reportedH, exceeds, criticalAt, rowServes, toleratedUpto, verdictBy, verdictOn}
+use Rattle.rules.specs.Figures.{deviation, ratio, reportedH, exceeds, verdictBy, verdictOn}
 use Rattle.rules.specs.Spread.{HeadWithin}
 use Rattle.rules.specs.declared.Attribute.{Attribute}
 use Rattle.rules.specs.declared.Attribute.the-variants.{Purity, Germination, Count}
 use Rattle.rules.specs.declared.Head.{Head}
-use Rattle.rules.specs.declared.Card.{Card}
 use Rattle.rules.specs.declared.Figures.{Figures}
 use Rattle.rules.specs.declared.Fraction.{Fraction}
 use Rattle.rules.specs.declared.Limit.{Limit}
 use Rattle.rules.specs.declared.Limit.the-variants.{Absent, At}
 use Rattle.rules.proofs.SpreadLaws.{highestH, ratio-le, under-positive}
-use Rattle.decimal.specs.Dividing.{Workable, workable, divisionOf, isAbove}
-use Rattle.decimal.proofs.DividingLaws.{workable-of, above-is}
-use Rattle.decimal.specs.declared.Division.{Division}
+use Rattle.rounding.specs.Dividing.{Workable, workable, divisionOf, isAbove}
+use Rattle.rounding.proofs.DividingLaws.{workable-of, above-is}
+use Rattle.rounding.specs.declared.Division.{Division}
 use Rattle.findings.specs.Reportable.{mostServed, Served}
-
--- a card's place for a critical value
-pub critical-some : (v : ℕ) → (v ≡ 0 → ⊥) → At (v - 1) ≡ criticalAt v
-critical-some zero h = absurd (h refl)
-critical-some (suc v) h = let e : suc v - 1 ≡ v = omega arith in ap At e
-
--- ---- the first row that serves
-module _ (c : Card) (n s : ℕ) where
-  pub none-yet : Absent ≡ toleratedUpto c n s 0
-  unfolding toleratedUpto
-  none-yet = refl
-
-  pub row-passed : (k : ℕ) → Absent ≡ toleratedUpto c n s k → rowServes c k n s ≡ false → Absent ≡ toleratedUpto c n s (k + 1)
-  unfolding toleratedUpto
-  row-passed k e b = rw (add-one k, ← e, b) refl
-
-  -- further rows change nothing
-  row-further : (v k : ℕ) → At v ≡ toleratedUpto c n s k → At v ≡ toleratedUpto c n s (suc k)
-  unfolding toleratedUpto
-  row-further v k e = rw (← e) refl
-
-  stays : (v k m : ℕ) → At v ≡ toleratedUpto c n s k → k ≤ m → At v ≡ toleratedUpto c n s m
-  stays v k zero e h = let z : k ≡ 0 = omega arith in rw z at e
-  stays v k (suc m) e h = by (decLe k m) (stays v k m e)
-    where
-      by : Dec (k ≤ m) → (k ≤ m → At v ≡ toleratedUpto c n s m) → At v ≡ toleratedUpto c n s (suc m)
-      by (yes p) r = row-further v m (r p)
-      by (no p) r = let z : k ≡ suc m = omega arith in rw z at e
-
-  pub row-found : (k : ℕ) → Absent ≡ toleratedUpto c n s k → rowServes c k n s ≡ true → k < c .rows
-      → At (getD (c .tolerated) k 0) ≡ toleratedUpto c n s (c .rows)
-  row-found k e b h =
-      stays (getD (c .tolerated) k 0) (suc k) (c .rows) (unfold toleratedUpto in rw (← e, b) refl) h
 
 -- ---- the numbers on the way to H
 abbrev mostSum : ℕ

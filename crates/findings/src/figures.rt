@@ -15,7 +15,6 @@ use rules::MOST_HELD;
 use rules::MOST_ROWS;
 use rules::MOST_SEEDS;
 use rules::WIDEST;
-use rules::checks;
 
 // The figures with one result more, which has 16 bits.
 fn with_result(f: Figures, x: u16) -> Figures

@@ -1,9 +1,9 @@
 // The findings of a report: what its five lines say.
 ghost use mathlib.Core.Path.{_≡_};
 ghost use Prim.Native.Nat.{_-_, _≤_};
-ghost use Rattle.rules.specs.Figures.{figuresOf, meanOf, together as rule·together};
+ghost use Rattle.rules.specs.Figures.{figuresOf, meanOf};
 ghost use Rattle.rules.specs.Report.{noValue, findingsOf};
-ghost use Rattle.decimal.specs.Dividing.{Workable};
+ghost use Rattle.rounding.specs.Dividing.{Workable};
 ghost use Rattle.findings.specs.Values.{hAgainst, rAgainst};
 ghost use Rattle.findings.specs.Reportable.{inOrder, foundOf, IsReportable};
 use rules::Attribute;
@@ -30,7 +30,7 @@ fn mean(a: Attribute, f: Figures) -> u64
     requires { ⌜ 1 ≤ f .count ⌝ }
     ensures { λ r. ⌜ r ≡ meanOf a f ⌝ }
 {
-    let d = decimal::divide(a.mean_scale(f.count), f.sum as u64, f.count as u64);
+    let d = rounding::divide(a.mean_scale(f.count), f.sum as u64, f.count as u64);
     d.nearest
 }
 
@@ -46,12 +46,12 @@ fn h_value(q: Fraction, offset: u16, critical: Limit) -> Value
     requires { ⌜ Workable 100 (q .over) (q .under) ⌝ }
     ensures { λ r. ⌜ r ≡ hAgainst q offset critical ⌝ }
 {
-    let d = decimal::divide(100, q.over, q.under);
+    let d = rounding::divide(100, q.over, q.under);
     Value {
         places: 2,
         value: less(d.nearest, 10 * offset as u64),
         limit: critical,
-        verdict: values::verdict_of_h(d, offset, critical),
+        verdict: verdicts::verdict_of_h(d, offset, critical),
     }
 }
 
@@ -65,7 +65,7 @@ fn r_value(a: Attribute, f: Figures, tolerated: Limit) -> Value
         places: a.places() as u8,
         value: range as u64,
         limit: tolerated,
-        verdict: values::verdict_of_r(range, tolerated),
+        verdict: verdicts::verdict_of_r(range, tolerated),
     }
 }
 
@@ -78,21 +78,6 @@ fn no_value() -> Value
         value: 0,
         limit: Limit::Absent,
         verdict: Verdict::Undecided,
-    }
-}
-
-// The lot's verdict from those of H and R: over if either is, else undecided if either is, else kept.
-fn together(h: Verdict, r: Verdict) -> Verdict
-    ensures { λ v. ⌜ v ≡ rule·together h r ⌝ }
-{
-    match h {
-        Verdict::Over => Verdict::Over,
-        Verdict::Kept => r,
-        Verdict::Undecided => match r {
-            Verdict::Over => Verdict::Over,
-            Verdict::Kept => Verdict::Undecided,
-            Verdict::Undecided => Verdict::Undecided,
-        },
     }
 }
 
@@ -117,8 +102,8 @@ fn of_figures(a: Attribute, c: Card, f: Figures) -> Findings
     }
     let head = c.head;
     let q = values::ratio(a, head, f);
-    let h = h_value(q, head.offset, values::critical_at(c.critical[n]));
-    let r = r_value(a, f, values::tolerated_for(c, f.count, f.sum));
+    let h = h_value(q, head.offset, verdicts::critical_at(c.critical[n]));
+    let r = r_value(a, f, verdicts::tolerated_for(c, f.count, f.sum));
     let by_h = h.verdict;
     let by_r = r.verdict;
     Findings {
@@ -128,7 +113,7 @@ fn of_figures(a: Attribute, c: Card, f: Figures) -> Findings
         void: false,
         h: h,
         r: r,
-        lot: together(by_h, by_r),
+        lot: verdicts::together(by_h, by_r),
     }
 }
 

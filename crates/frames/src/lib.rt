@@ -1,12 +1,11 @@
-// A sheet's lines, a line's fields of hexadecimal digits, and the frame that a line is.
+// A line's fields of hexadecimal digits, and the frame that a line is.
 ghost use mathlib.Core.Path.{_≡_};
 ghost use mathlib.Core.Bool.{true};
 ghost use Prim.Native.Nat.{_+_, _≤_};
-ghost use lib.ListN.{length, drop};
+ghost use lib.ListN.{length};
 ghost use Rattle.rules.specs.Fields.{isDigit, allDigits, valueOf, fieldOf};
 ghost use Rattle.rules.specs.Frames.{lotFrame, cardFrame, criticalFrame, rangeFrame, resultFrame, endFrame, kindFrame, frameOf};
-ghost use Rattle.frames.specs.Runs.{runOf, allPass};
-ghost use Rattle.frames.specs.Cutting.{CutAt, LineAt};
+ghost use Rattle.frames.specs.Promise.{LineAt};
 use rules::CARD_DIGITS;
 use rules::CRITICAL_DIGITS;
 use rules::END_DIGITS;
@@ -14,73 +13,11 @@ use rules::Frame;
 use rules::LOT_DIGITS;
 use rules::RANGE_DIGITS;
 use rules::RESULT_DIGITS;
-use rules::checks;
 
 // A line's frame, and where its digits end: on a line of digits alone, the place of its end byte.
 pub struct Line {
     pub frame: Frame,
     pub end: usize,
-}
-
-fn is_digit(c: u8) -> bool
-    ensures { λ r. ⌜ r ≡ isDigit c ⌝ }
-{
-    ((b'0' <= c) & (c <= b'9')) | ((b'A' <= c) & (c <= b'F'))
-}
-
-// Whether the eight bytes from `at` on are digits. With no branch: the compiler looks at all of them together.
-fn eight_digits(sheet: &[u8], at: usize) -> bool
-    requires { ⌜ at + 8 ≤ length (now sheet) ⌝ }
-    ensures { λ r. ⌜ r ≡ allPass isDigit (now (sheet .entry)) at 8 ⌝ }
-{
-    is_digit(sheet[at])
-        & is_digit(sheet[at + 1])
-        & is_digit(sheet[at + 2])
-        & is_digit(sheet[at + 3])
-        & is_digit(sheet[at + 4])
-        & is_digit(sheet[at + 5])
-        & is_digit(sheet[at + 6])
-        & is_digit(sheet[at + 7])
-}
-
-// A place from `at` on with nothing but digits before it, as many eights of them as there are.
-fn eights_end(sheet: &[u8], at: usize) -> usize
-    requires { ⌜ at ≤ length (now sheet) ⌝ }
-    ensures { λ r. ⌜ (at + runOf isDigit (drop at (now (sheet .entry))) ≡ r + runOf isDigit (drop r (now (sheet .entry)))) × (r ≤ length (now (sheet .entry))) ⌝ }
-{
-    let mut past = at;
-    while 8 <= sheet.len() - past {
-        if !eight_digits(sheet, past) {
-            return past;
-        }
-        past += 8;
-    }
-    past
-}
-
-// Where the digits that start at `at` end: at the first byte that is none, or at the sheet's end.
-fn digits_end(sheet: &[u8], at: usize) -> usize
-    requires { ⌜ at ≤ length (now sheet) ⌝ }
-    ensures { λ r. ⌜ (r ≡ at + runOf isDigit (drop at (now (sheet .entry)))) × (r ≤ length (now (sheet .entry))) ⌝ }
-{
-    let mut i = eights_end(sheet, at);
-    while i < sheet.len() {
-        if !is_digit(sheet[i]) {
-            return i;
-        }
-        i += 1;
-    }
-    i
-}
-
-// The digits of the line that starts at `at`: a part of the sheet. Whether the line's end byte follows them, the caller sees by their
-// length.
-pub fn cut(sheet: &[u8], at: usize) -> &[u8]
-    ensures { λ r. ⌜ CutAt (sheet .entry) at r ⌝ }
-{
-    let start = checks::least(at, sheet.len());
-    let end = digits_end(sheet, start);
-    &sheet[start..end]
 }
 
 // A digit's value: the byte of A is 65, one above 64, and that of 0 is 48. Without a branch, since nothing foretells which digits are
@@ -217,7 +154,7 @@ fn frame_of(line: &[u8]) -> Frame
 pub fn line_at(sheet: &[u8], at: usize) -> Line
     ensures { λ r. ⌜ LineAt (now (sheet .entry)) at r ⌝ }
 {
-    let digits = cut(sheet, at);
+    let digits = cutter::cut(sheet, at);
     let end = at + digits.len();
     if sheet.len() <= end {
         return Line {

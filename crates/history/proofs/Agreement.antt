@@ -10,7 +10,8 @@ use Rattle.rules.specs.declared.Lot.{Lot}
 use Rattle.rules.specs.declared.Card.{Card}
 use Rattle.tally.specs.declared.Tally.{Tally}
 use Rattle.tally.specs.declared.Outcome.{Outcome}
-use Rattle.tally.specs.View.{view, stored}
+use Rattle.held_lists.specs.Places.{stored}
+use Rattle.tally.specs.View.{view}
 use Rattle.tally.specs.Calls.{Sound, Opened, answer}
 use Rattle.tally.proofs.Answer.{fresh-sound}
 use Rattle.history.specs.Calls.{Calls, judge, ledger, answers}

@@ -12,7 +12,8 @@ use Rattle.sheet.specs.declared.Answer.{Answer}
 use Rattle.sheet.specs.declared.Answer.the-variants.{Accepted, Refused}
 use Rattle.sheet.specs.declared.Reading.{Reading}
 use Rattle.writer.specs.Promise.{Wrote}
-use Rattle.host.specs.Coding.{sizeCode, refusalCode, codeAndBytes, textCode, writtenBack, rewriteOn}
+use Rattle.answers.specs.Codes.{refusalCode, sizeCode}
+use Rattle.host.specs.Coding.{codeAndBytes, textCode, writtenBack, rewriteOn}
 
 -- a text's answer, its size, and the size's code
 pub text-code : {t : TextAnswer} {s z : TextSize} {b : List ℕ} {r : ℕ} → withBytes s b ≡ t → z ≡ s → r ≡ sizeCode z

@@ -1,30 +1,10 @@
--- A call's answer as one number, for a host program.
+-- What a call that writes answers a host program.
 use mathlib.Core.List.{List}
-use Prim.Native.Nat.{ℕ, _+_}
-use lib.Dec.{eqb}
-use Rattle.rules.specs.Choice.{pick}
+use Prim.Native.Nat.{ℕ}
 use Rattle.rules.specs.Numbers.{TextAnswer}
 use Rattle.rules.specs.Reading.{Outcome, accepted, refused, readOf}
 use Rattle.rules.specs.Writing.{writeOn}
-use Rattle.rules.specs.declared.Answered.{Answered}
-use Rattle.rules.specs.declared.TextSize.{TextSize}
-
--- the first number of more than 32 bits, and a refusal's number
-abbrev pub refusalCode : ℕ → ℕ
-refusalCode e = 4294967296 + e
-
--- a value where the call is not refused, which is number 0
-unfoldable pub codeOf : ℕ → ℕ → ℕ
-codeOf number value = pick (eqb number 0) value (refusalCode number)
-
--- the value, which has 32 bits, or the refusal
-abbrev pub answerCode : Answered → ℕ
-answerCode a = codeOf (a .number) (a .value)
-
--- ---- calls that write
--- the text's length, or the refusal
-abbrev pub sizeCode : TextSize → ℕ
-sizeCode s = codeOf (s .number) (s .size)
+use Rattle.answers.specs.Codes.{refusalCode, codeOf}
 
 -- what a call answers, and the whole buffer afterwards
 pub record CodeAndBytes : Type 0 where

@@ -47,9 +47,9 @@ pub fn joined(t: Tally, other: Tally, buf: &mut [u8], at: usize) -> Tally {
 // A report or, for any other kind, a sheet.
 fn text_of(t: Tally, kind: u8, lent: &mut [u8]) -> TextSize {
     if kind == REPORT {
-        return report::report(t, lent).text_size();
+        return answers::reported_size(report::report(t, lent));
     }
-    writer::write(t, lent).text_size()
+    answers::written_size(writer::write(t, lent))
 }
 
 // The number, the two bytes of the length, and the buffer that is lent: `room` bytes.

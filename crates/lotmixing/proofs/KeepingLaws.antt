@@ -16,9 +16,9 @@ use Rattle.rules.proofs.Tests.{and-true, and-false}
 use Rattle.decimal_words.specs.Words.{isNumber, wordValue, wordOf}
 use Rattle.decimal_words.specs.declared.Word.the-variants.{Number, NotANumber}
 use Rattle.decimal_words.proofs.WordLaws.{is-number, is-no-number}
-use Rattle.program_lines.specs.declared.Said.{Said}
-use Rattle.program_lines.specs.declared.Said.the-variants.{Usage}
-use Rattle.program_lines.specs.Saying.{saidOf}
+use Rattle.program_words.specs.declared.Said.{Said}
+use Rattle.program_words.specs.declared.Said.the-variants.{Usage}
+use Rattle.program_words.specs.Saying.{saidOf}
 use Rattle.program_lines.specs.Printing.{allNumbers, saidToMixing}
 use Rattle.lotmixing.specs.declared.Listed.{Listed}
 use Rattle.lotmixing.specs.Listing.{mostKept, KeptOf}

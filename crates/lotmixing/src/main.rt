@@ -8,7 +8,7 @@ ghost use Rattle.program_lines.specs.Printing.{saidToMixing, mixingPrints};
 ghost use Rattle.lotmixing.specs.Listing.{KeptOf, OneMore, ReadOf};
 use decimal_words::Word;
 use program_lines::LINE;
-use program_lines::Said;
+use program_words::Said;
 use rules::MOST_MIXED;
 
 // Numbers that are kept: the tolerated R, and one result more than may be mixed.
@@ -74,7 +74,7 @@ fn said_to(listed: Listed) -> Said
         return Said::Usage;
     }
     let tolerated = values[0];
-    program_lines::said_of(mixing::mixable(&values[1..count], tolerated).answered())
+    program_words::said_of(answers::mixing_answer(mixing::mixable(&values[1..count], tolerated)))
 }
 
 // The line to the words, and its length.
@@ -95,7 +95,7 @@ fn answer(listed: Listed, line: &mut [u8; LINE]) -> usize
 fn with_argument(listed: Listed, i: usize) -> Listed
     ensures { λ r. ⌜ OneMore listed r ⌝ }
 {
-    let mut word = program_lines::word_buffer();
+    let mut word = program_words::word_buffer();
     let n = os::arg(i, &mut word);
     with_word(listed, &word[..n])
 }

@@ -14,7 +14,7 @@ fn answer(sheet: &[u8], text: &mut [u8; TEXT]) -> usize
     ensures { λ r. ⌜ Counts r (now (text .exit)) ⌝ }
 {
     let printed = judge::judge(sheet, text);
-    printed.text_size().size
+    answers::printed_size(printed).size
 }
 
 // The first 4,096 bytes of a sheet decide what is printed: a law of crate reading_theorems.

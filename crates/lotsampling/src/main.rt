@@ -2,11 +2,11 @@
 ghost use mathlib.Core.Path.{_≡_};
 ghost use Rattle.io.specs.Counts.{Counts};
 ghost use Rattle.decimal.specs.Laying.{Laid};
-ghost use Rattle.program_lines.specs.Saying.{saidToTwo};
+ghost use Rattle.program_words.specs.Saying.{saidToTwo};
 ghost use Rattle.program_lines.specs.Printing.{saidToSampling, samplingPrints};
 use program_lines::LINE;
-use program_lines::Said;
-use program_lines::TwoNumbers;
+use program_words::Said;
+use program_words::TwoNumbers;
 
 // What is said to the words.
 fn said_to(words: TwoNumbers) -> Said
@@ -15,7 +15,7 @@ fn said_to(words: TwoNumbers) -> Said
     let TwoNumbers::Given(k, c) = words else {
         return Said::Usage;
     };
-    program_lines::said_of(sampling::primary_samples(k, c).answered())
+    program_words::said_of(answers::samples_answer(sampling::primary_samples(k, c)))
 }
 
 // The line to the words, and its length.
@@ -23,13 +23,13 @@ fn answer(arguments: usize, containers: &[u8], kilograms: &[u8], line: &mut [u8;
     ensures { λ r. ⌜ Laid (samplingPrints arguments (now (containers .entry)) (now (kilograms .entry))) (now (line .entry)) (now (line .exit)) r ⌝ }
     ensures { λ r. ⌜ Counts r (now (line .exit)) ⌝ }
 {
-    let said = said_to(program_lines::two_numbers(arguments == 3, containers, kilograms));
+    let said = said_to(program_words::two_numbers(arguments == 3, containers, kilograms));
     program_lines::number_line(said, b"usage: lotsampling CONTAINERS KILOGRAMS", line)
 }
 
 fn main() {
-    let mut containers = program_lines::word_buffer();
-    let mut kilograms = program_lines::word_buffer();
+    let mut containers = program_words::word_buffer();
+    let mut kilograms = program_words::word_buffer();
     let mut line = [0u8; LINE];
     let k = os::arg(1, &mut containers);
     let c = os::arg(2, &mut kilograms);

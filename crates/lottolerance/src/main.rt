@@ -2,21 +2,21 @@
 ghost use mathlib.Core.Path.{_≡_};
 ghost use Rattle.io.specs.Counts.{Counts};
 ghost use Rattle.decimal.specs.Laying.{Laid};
-ghost use Rattle.program_lines.specs.Saying.{saidToTwo};
+ghost use Rattle.program_words.specs.Saying.{saidToTwo};
 ghost use Rattle.program_lines.specs.Printing.{saidToKind, tolerancePrints};
 use program_lines::LINE;
-use program_lines::Said;
-use program_lines::TwoNumbers;
+use program_words::Said;
+use program_words::TwoNumbers;
 
 // What is said to two numbers.
 fn said_to_kind(kind: &[u8], a: u32, b: u32) -> Said
     ensures { λ r. ⌜ r ≡ saidToKind (now (kind .entry)) a b ⌝ }
 {
     if check::same(kind, b"label") {
-        return program_lines::said_of(tolerance::label(a, b).answered());
+        return program_words::said_of(answers::tolerance_answer(tolerance::label(a, b)));
     }
     if check::same(kind, b"pair") {
-        return program_lines::said_of(tolerance::pair(a, b).answered());
+        return program_words::said_of(answers::tolerance_answer(tolerance::pair(a, b)));
     }
     Said::Usage
 }
@@ -44,7 +44,7 @@ fn answer(
 {
     let said = said_to(
         kind,
-        program_lines::two_numbers(arguments == 4, first, second),
+        program_words::two_numbers(arguments == 4, first, second),
     );
     program_lines::verdict_line(
         said,
@@ -56,9 +56,9 @@ fn answer(
 }
 
 fn main() {
-    let mut kind = program_lines::word_buffer();
-    let mut first = program_lines::word_buffer();
-    let mut second = program_lines::word_buffer();
+    let mut kind = program_words::word_buffer();
+    let mut first = program_words::word_buffer();
+    let mut second = program_words::word_buffer();
     let mut line = [0u8; LINE];
     let k = os::arg(1, &mut kind);
     let a = os::arg(2, &mut first);

@@ -6,7 +6,6 @@ use rules::FEWEST_MIXED;
 use rules::HIGHEST_X;
 use rules::MOST_MIXED;
 use rules::Mixing;
-use rules::checks;
 
 // The highest result, as the results are given here.
 const HIGHEST: u32 = HIGHEST_X as u32;

@@ -13,9 +13,9 @@ use Rattle.decimal.specs.Laying.{Laid, LaysAt, Fitting}
 use Rattle.decimal.proofs.LayingLaws.{laying-fits}
 use Rattle.io.specs.Counts.{Counts}
 use Rattle.io.proofs.Counting.{counts}
-use Rattle.program_lines.specs.declared.Said.{Said}
-use Rattle.program_lines.specs.declared.Said.the-variants.{Usage, Refused, Value}
-use Rattle.program_lines.specs.Saying.{linePlaces, ended, lineOf, yesOrNo}
+use Rattle.program_words.specs.declared.Said.{Said}
+use Rattle.program_words.specs.declared.Said.the-variants.{Usage, Refused, Value}
+use Rattle.program_lines.specs.Lines.{linePlaces, ended, lineOf, yesOrNo}
 
 length-ended : (t : List ℕ) → length (ended t) ≡ length t + 1
 length-ended t = length-append t (text "\n")

@@ -10,9 +10,10 @@ use Rattle.rules.specs.Sampling.{samplingOf}
 use Rattle.rules.specs.Tolerance.{labelOf, pairOf}
 use Rattle.rules.specs.Mixing.{mixingOf}
 use Rattle.decimal_words.specs.Words.{isNumber, decimalValue, wordOf}
-use Rattle.program_lines.specs.declared.Said.{Said}
-use Rattle.program_lines.specs.declared.Said.the-variants.{Usage}
-use Rattle.program_lines.specs.Saying.{saidOf, twoNumbers, saidToTwo, lineOf, yesOrNo}
+use Rattle.program_words.specs.declared.Said.{Said}
+use Rattle.program_words.specs.declared.Said.the-variants.{Usage}
+use Rattle.program_words.specs.Saying.{saidOf, twoNumbers, saidToTwo}
+use Rattle.program_lines.specs.Lines.{lineOf, yesOrNo}
 
 -- ---- lotsampling CONTAINERS KILOGRAMS: the number of primary samples
 abbrev pub saidToSampling : ℕ → ℕ → Said

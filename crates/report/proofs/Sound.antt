@@ -13,9 +13,10 @@ use Rattle.rules.specs.Figures.{figuresOf, figures}
 use Rattle.rules.specs.declared.Figures.{Figures}
 use Rattle.rules.proofs.Bounds.{opened-head}
 use Rattle.tally.specs.declared.Tally.{Tally}
-use Rattle.tally.specs.View.{stored, view}
+use Rattle.held_lists.specs.Places.{stored}
+use Rattle.tally.specs.View.{view}
 use Rattle.tally.specs.Calls.{Sound}
-use Rattle.tally.proofs.Stored.{Apart, fewer, last-without, stored-free}
+use Rattle.held_lists.proofs.Stored.{Apart, fewer, last-without, stored-free}
 use Rattle.findings.specs.Reportable.{inOrder, withResult, reportable}
 use Rattle.findings.proofs.ReportableLaws.{count-in-order}
 use Rattle.report.proofs.FigureLaws.{figures-none, figures-put}

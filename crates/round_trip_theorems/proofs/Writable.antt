@@ -22,10 +22,11 @@ use Rattle.reading_theorems.specs.Spelling.{Entry, Made, opens, enters}
 use Rattle.reading_theorems.proofs.Accepted.{accepted-sheet}
 use Rattle.reading_theorems.proofs.Spelt.{sheet-made}
 use Rattle.reading_theorems.proofs.Ready.{rows-same, start-ready, ready-led}
-use Rattle.tally.specs.View.{stored, view}
+use Rattle.held_lists.specs.Places.{stored}
+use Rattle.tally.specs.View.{view}
 use Rattle.tally.specs.Calls.{Sized, Sound}
 use Rattle.tally.specs.declared.Tally.{Tally}
-use Rattle.tally.proofs.Stored.{stored-free}
+use Rattle.held_lists.proofs.Stored.{stored-free}
 use Rattle.tally.proofs.Steps.{size-is}
 
 -- a lot and a card as an opened ledger has them: good, cut to their rows, and each number fits its field

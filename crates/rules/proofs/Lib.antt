@@ -3,6 +3,7 @@ pub mod ContentLaws
 pub mod CountLaws
 pub mod CardLaws
 pub mod LedgerLaws
+pub mod EveryStage
 pub mod Taken
 pub mod Marked
 pub mod RoundingLaws

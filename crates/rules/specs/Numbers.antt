@@ -39,12 +39,15 @@ numberOf BufferShort = 16
 numberOf OutsideTable = 17
 
 -- ---- calls that answer a number: the refusal's number, or 0 and the value
+abbrev pub tells : ℕ → ℕ → Answered
+tells e v = record { number = e; value = v }
+
 -- a value, and a refusal, which has none
 abbrev pub gives : ℕ → Answered
-gives v = record { number = 0; value = v }
+gives v = tells 0 v
 
 abbrev pub refuses : ℕ → Answered
-refuses e = record { number = e; value = 0 }
+refuses e = tells e 0
 
 abbrev pub samplesAnswer : Samples → Answered
 samplesAnswer (samples.Number n) = gives n
@@ -64,12 +67,15 @@ mixingAnswer mixing.ResultTooHigh = refuses 7
 mixingAnswer mixing.OutsideTable = refuses 17
 
 -- ---- calls that write: the refusal's number, or 0 and the text's length
-abbrev pub sizeIs : ℕ → TextSize
-sizeIs n = record { number = 0; size = n }
+abbrev pub hasSize : ℕ → ℕ → TextSize
+hasSize e n = record { number = e; size = n }
 
--- a refusal has no text
+-- a text's length, and a refusal, which has no text
+abbrev pub sizeIs : ℕ → TextSize
+sizeIs n = hasSize 0 n
+
 abbrev pub noText : ℕ → TextSize
-noText e = record { number = e; size = 0 }
+noText e = hasSize e 0
 
 abbrev pub reportedSize : Reported → TextSize
 reportedSize (reported.Length n) = sizeIs n

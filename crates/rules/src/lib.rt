@@ -1,10 +1,8 @@
 // The plain data of a lot's results: attribute, lot, card, the frames of a sheet, the numbered refusals, what a report finds, and the
 // answers of the calls. What each means is said in specs/.
 
-pub mod answers;
 pub mod attributes;
-pub mod checks;
-pub mod stages;
+pub mod refusals;
 
 // The most results that a tally holds, that a join may come to, and that N may be in a frame.
 pub const MOST_HELD: usize = 60;

@@ -6,7 +6,6 @@ ghost use Rattle.rules.specs.Limits.{widest};
 ghost use Rattle.rules.specs.Sampling.{inTable, samplingOf, samplesOf, begunParts, table2A, table2B, unitsOf, raised};
 use rules::Samples;
 use rules::WIDEST;
-use rules::checks;
 
 // Containers below this weight in kg are taken together, in units of up to 100 kg.
 const SMALL: u32 = 15;

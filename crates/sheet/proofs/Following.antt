@@ -23,15 +23,17 @@ use Rattle.rules.specs.declared.Refusal.{Refusal}
 use Rattle.rules.specs.declared.Stage.{Stage}
 use Rattle.rules.specs.declared.Frame.{Frame}
 use Rattle.rules.specs.declared.Frame.the-variants.{Bad}
+use Rattle.cutter.specs.Runs.{lineAt}
 use Rattle.frames.specs.declared.Line.{Line}
-use Rattle.frames.specs.Runs.{lineAt}
-use Rattle.frames.specs.Cutting.{LineAt}
-use Rattle.frames.proofs.Runs.{lines-ended, lines-unended, lines-none}
-use Rattle.tally.specs.View.{stored}
+use Rattle.frames.specs.Promise.{LineAt}
+use Rattle.cutter.proofs.Lines.{lines-ended, lines-unended, lines-none}
+use Rattle.held_lists.specs.Places.{stored}
 use Rattle.tally.specs.Calls.{Opens}
-use Rattle.steps.specs.declared.Progress.{Progress}
-use Rattle.steps.specs.Promise.{Lists, cardRead, stateOf, isResult, HeadEnds, atResults, justOpened, openedState}
-use Rattle.steps.proofs.HeadLaws.{at-every-stage, begin-step}
+use Rattle.head_steps.specs.declared.Progress.{Progress}
+use Rattle.head_steps.specs.Promise.{Lists, cardRead, stateOf, isResult, HeadEnds, justOpened}
+use Rattle.result_steps.specs.Promise.{atResults, openedState}
+use Rattle.rules.proofs.EveryStage.{at-every-stage}
+use Rattle.head_steps.proofs.HeadLaws.{begin-step}
 use Rattle.sheet.specs.declared.Reading.{Reading}
 use Rattle.sheet.specs.Promise.{ReadAs, Starts, readRest, readOpened, HeadRead}
 

@@ -14,7 +14,7 @@ use Rattle.rules.specs.declared.Card.{Card}
 use Rattle.tally.specs.View.{tallyOf, view}
 use Rattle.tally.specs.Calls.{Sound, freshTally}
 use Rattle.tally.specs.declared.Tally.{Tally}
-use Rattle.steps.specs.Promise.{Lists, cardRead, stateOf, atFirst, justOpened}
+use Rattle.head_steps.specs.Promise.{Lists, cardRead, stateOf, atFirst, justOpened}
 use Rattle.sheet.specs.declared.Answer.{Answer}
 use Rattle.sheet.specs.declared.Answer.the-variants as answer
 use Rattle.sheet.specs.declared.Reading.{Reading}

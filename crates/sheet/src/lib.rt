@@ -6,8 +6,13 @@ ghost use Rattle.rules.specs.Reading.{refused as Reading·refused, readOf};
 ghost use Rattle.rules.specs.declared.Card.{Card};
 ghost use Rattle.tally.specs.View.{tallyOf};
 ghost use Rattle.tally.specs.Calls.{Sound};
-ghost use Rattle.steps.specs.Promise.{listsOf, atResults, openedState};
+ghost use Rattle.head_steps.specs.Promise.{listsOf};
+ghost use Rattle.result_steps.specs.Promise.{atResults, openedState};
 ghost use Rattle.sheet.specs.Promise.{ReadAs, Starts, readRest, readOpened, HeadLinesAre, ResultLinesAre};
+use head_steps::HeadLine;
+use head_steps::Progress;
+use result_steps::ResultLine;
+use result_steps::Results;
 use rules::CRITICALS;
 use rules::Card;
 use rules::Lot;
@@ -15,10 +20,6 @@ use rules::MOST_HELD;
 use rules::MOST_ROWS;
 use rules::Refusal;
 use rules::Stage;
-use steps::HeadLine;
-use steps::Progress;
-use steps::ResultLine;
-use steps::Results;
 use tally::Tally;
 
 pub enum Answer {
@@ -62,13 +63,13 @@ fn take_head(
 ) -> HeadLines
     ensures { λ r. ⌜ HeadLinesAre (now (sheet .entry)) (listsOf (now (critical .entry)) (now (lowest .entry)) (now (highest .entry)) (now (bound .entry)) (now (tolerated .entry))) r (listsOf (now (critical .exit)) (now (lowest .exit)) (now (highest .exit)) (now (bound .exit)) (now (tolerated .exit))) ⌝ }
 {
-    let mut p = steps::start();
+    let mut p = head_steps::start();
     let mut line: usize = 1;
     let mut at: usize = 0;
     while at < sheet.len() {
         let head_line = frames::line_at(sheet, at);
         let frame = head_line.frame;
-        let step = steps::head_step(p, critical, lowest, highest, bound, tolerated, frame);
+        let step = head_steps::head_step(p, critical, lowest, highest, bound, tolerated, frame);
         match step {
             HeadLine::Taken(next) => {
                 p = next;
@@ -111,7 +112,7 @@ fn take_results(
     while at < sheet.len() {
         let result_line = frames::line_at(sheet, at);
         let frame = result_line.frame;
-        let step = steps::result_step(p, lot, containers, results, frame);
+        let step = result_steps::result_step(p, lot, containers, results, frame);
         match step {
             ResultLine::Taken(next) => {
                 p = next;
@@ -122,7 +123,7 @@ fn take_results(
         }
     }
     let stage = p.stage;
-    if stage.is_ended() {
+    if stages::is_ended(stage) {
         return ResultLines::Ended(p.held, line - 1);
     }
     ResultLines::Refused(Refusal::OutOfTurn, line)

@@ -4,16 +4,10 @@ ghost use Rattle.rules.specs.Numbers.{toleranceAnswer};
 ghost use Rattle.rules.specs.Rounding.{distance};
 ghost use Rattle.rules.specs.Tolerance.{labelOf, pairOf, averageOf};
 use rules::Tolerance;
+use tolerance_tables::Entry;
 
-mod tables;
-
-// The largest average of Table 14H, and the largest that is always within.
-const LAST_AVERAGE: u32 = 501;
-
+// The largest average that is always within.
 const ALWAYS_WITHIN: u32 = 2;
-
-// The largest label of Table 14G.
-const LAST_LABEL: u32 = 100;
 
 // The average of two tests, half up. The sum of two 32-bit numbers needs more than 32 bits.
 fn average_of(first: u32, second: u32) -> u32
@@ -36,10 +30,11 @@ fn distance_of(first: u32, second: u32) -> u32
 pub fn label(labelled: u32, found: u32) -> Tolerance
     ensures { λ r. ⌜ toleranceAnswer r ≡ labelOf labelled found ⌝ }
 {
-    if LAST_LABEL < labelled {
+    let entry = tolerance_tables::most_found(labelled);
+    let Entry::AtMost(most) = entry else {
         return Tolerance::OutsideTable;
-    }
-    if found <= tables::most_found(labelled) as u32 {
+    };
+    if found <= most {
         Tolerance::Within
     } else {
         Tolerance::Out
@@ -51,13 +46,14 @@ pub fn pair(first: u32, second: u32) -> Tolerance
     ensures { λ r. ⌜ toleranceAnswer r ≡ pairOf first second ⌝ }
 {
     let average = average_of(first, second);
-    if LAST_AVERAGE < average {
-        return Tolerance::OutsideTable;
-    }
     if average <= ALWAYS_WITHIN {
         return Tolerance::Within;
     }
-    if distance_of(first, second) <= tables::difference_for(average as u16) as u32 {
+    let entry = tolerance_tables::tolerated_difference(average);
+    let Entry::AtMost(most) = entry else {
+        return Tolerance::OutsideTable;
+    };
+    if distance_of(first, second) <= most {
         Tolerance::Within
     } else {
         Tolerance::Out

@@ -1,6 +1,7 @@
 -- `frames::line_at` meets its contract.
 use native.Mathlib.Omega.{arith}
-use Rattle.frames.proofs.Runs.{digits-within, digits-all, line-unended, line-bad, line-ended}
+use Rattle.cutter.proofs.Lines.{digits-within, digits-all}
+use Rattle.frames.proofs.Framed.{line-unended, line-bad, line-ended}
 use borrow.Author.Needs.{needs}
 use Rattle.frames.proofs.line_at.Statement.{statement}
 use Rattle.frames.proofs.line_at.Tie as tie

@@ -5,7 +5,7 @@ use Rattle.host.proofs.gelvorin_judge.Statement.{statement}
 use Rattle.host.proofs.gelvorin_judge.Tie as tie
 
 returns : tie.Need-returns
-returns c = text-code (c .before .before .before .before .judge .ensures) (c .before .text-size .ensures) (c .size-code .ensures)
+returns c = text-code (c .before .before .before .before .judge .ensures) (c .before .printed-size .ensures) (c .size-code .ensures)
 
 pub gelvorin-judge-spec : {M : Type 1} → statement M
 gelvorin-judge-spec = tie.close (tie.spec (λ c κs. search needs) (λ c κs. search needs) (λ c κs. search needs) (λ c. search needs) returns)

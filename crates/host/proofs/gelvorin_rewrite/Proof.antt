@@ -9,7 +9,7 @@ returns c =
     let wrote = c .before .before .before .before in
     let read = wrote .before .before .before .before .before in
     rewrite-accepted _ _ _ (read .read .ensures) _ (wrote .before .before .enum-told .given .1) (wrote .write .ensures)
-    (c .before .text-size .ensures) (c .size-code .ensures)
+    (c .before .written-size .ensures) (c .size-code .ensures)
 
 returns-2 : tie.Need-returns-2
 returns-2 c =

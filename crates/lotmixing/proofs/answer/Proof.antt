@@ -7,8 +7,8 @@ use lib.ListN.{length}
 use Rattle.rules.specs.Text.{text}
 use Rattle.decimal.specs.Laying.{Laid, LaysAt}
 use Rattle.io.specs.Counts.{Counts}
-use Rattle.program_lines.specs.declared.Said.{Said}
-use Rattle.program_lines.specs.Saying.{linePlaces}
+use Rattle.program_words.specs.declared.Said.{Said}
+use Rattle.program_lines.specs.Lines.{linePlaces}
 use Rattle.program_lines.specs.Printing.{mixingLine, mixingPrints}
 use Rattle.program_lines.proofs.LineLaws.{yes-or-no-most, line-answers}
 use borrow.Author.Needs.{needs}

@@ -27,7 +27,7 @@ returns-4 c =
     let at = called .before .before .before .before in
     let start = at .before .before .before .before in
     said-list (start .args .listed) (not-false _ (at .before .if1 .left)) (listed-sized (start .args .listed) _ (start .good .0)) (at .if2 .left)
-    (c .before .answered .ensures ∙ called .mixable .ensures) (c .said-of .ensures)
+    (c .before .mixing-answer .ensures ∙ called .mixable .ensures) (c .said-of .ensures)
 
 pub said-to-spec : {M : Type 1} → statement M
 said-to-spec =

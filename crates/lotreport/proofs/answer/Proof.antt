@@ -29,4 +29,4 @@ pub answer-spec : {M : Type 1} → statement M
 answer-spec =
     tie.close
     (tie.spec (λ c κs. search needs) (λ c κs. search needs)
-    (λ c. laid-text _ _ _ (c .before .judge .result) _ (c .text-size .ensures) (c .before .judge .ensures) (search needs) (c .before .judge .kept .1 .0)))
+    (λ c. laid-text _ _ _ (c .before .judge .result) _ (c .printed-size .ensures) (c .before .judge .ensures) (search needs) (c .before .judge .kept .1 .0)))

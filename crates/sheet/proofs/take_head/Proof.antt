@@ -6,7 +6,7 @@ use native.Mathlib.Omega.{arith}
 use lib.ListN.{length}
 use borrow.Author.Needs.{needs}
 use Rattle.rules.specs.Stages.{isOpened}
-use Rattle.steps.specs.Promise.{listsOf, stateOf}
+use Rattle.head_steps.specs.Promise.{listsOf, stateOf}
 use Rattle.sheet.specs.Promise.{Starts, readRest, readWith}
 use Rattle.sheet.proofs.Following.{taken-frame, line-comes, line-next, results-follow, rest-none, unended}
 use Rattle.sheet.proofs.take_head.Statement.{statement}

@@ -8,7 +8,7 @@ use borrow.Author.Needs.{needs}
 use Rattle.rules.specs.declared.Card.{Card}
 use Rattle.tally.specs.View.{tallyOf}
 use Rattle.tally.specs.Calls.{Sound}
-use Rattle.steps.specs.Promise.{atResults, openedState, Proper}
+use Rattle.result_steps.specs.Promise.{atResults, openedState, Proper}
 use Rattle.sheet.specs.Promise.{Starts, readRest}
 use Rattle.sheet.proofs.Following.{result-frame, line-comes, line-next, rest-none}
 use Rattle.sheet.proofs.take_results.Statement.{statement}

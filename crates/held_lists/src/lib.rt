@@ -1,0 +1,69 @@
+// The two lists of a tally, of containers and of results, by themselves: which containers are held, and others laid behind them.
+// A number of places counts up to the places that a list has.
+ghost use mathlib.Core.Path.{_≡_};
+ghost use mathlib.Core.List.{List};
+ghost use Prim.Native.Nat.{ℕ, min};
+ghost use Rattle.rules.specs.Limits.{mostHeld};
+ghost use Rattle.rules.specs.Contents.{isHeld};
+ghost use Rattle.held_lists.specs.Places.{stored, FoundAt, meets, LaidBehind};
+use rules::MOST_HELD;
+
+// The first of the first n places of l that has k, or their number where none has.
+pub fn place_of(l: &[u16; MOST_HELD], n: usize, k: u16) -> usize
+    ensures { λ r. ⌜ FoundAt (now (l .entry)) (min n mostHeld) k r ⌝ }
+{
+    let end = checks::least(n, MOST_HELD);
+    let mut i = 0;
+    while i < end {
+        if l[i] == k {
+            return i;
+        }
+        i += 1;
+    }
+    i
+}
+
+// Whether one of the first n places is of container k.
+pub fn is_held(l: &[u16; MOST_HELD], n: usize, k: u16) -> bool
+    ensures { λ r. ⌜ ((vs : List ℕ) → r ≡ isHeld (stored (now (l .entry)) vs (min n mostHeld) k)) ⌝ }
+{
+    place_of(l, n, k) < checks::least(n, MOST_HELD)
+}
+
+// Whether one of the first m containers of o is among the first n of l.
+pub fn meet(l: &[u16; MOST_HELD], n: usize, o: &[u16; MOST_HELD], m: usize) -> bool
+    ensures { λ r. ⌜ ((vs : List ℕ) → r ≡ meets (stored (now (l .entry)) vs (min n mostHeld)) (now (o .entry)) (min m mostHeld)) ⌝ }
+{
+    let end = checks::least(m, MOST_HELD);
+    let mut found = false;
+    let mut j = 0;
+    while j < end {
+        found = checks::either(found, is_held(l, n, o[j]));
+        j += 1;
+    }
+    found
+}
+
+// Lays the first m places of two other lists behind the first `held` of containers and results, as many as there is room for; how
+// many are held then.
+pub fn lay_behind(
+    containers: &mut [u16; MOST_HELD],
+    results: &mut [u16; MOST_HELD],
+    held: usize,
+    more: &[u16; MOST_HELD],
+    values: &[u16; MOST_HELD],
+    m: usize,
+) -> usize
+    ensures { λ r. ⌜ LaidBehind (now (containers .entry)) (now (results .entry)) held (now (more .entry)) (now (values .entry)) m r (now (containers .exit)) (now (results .exit)) ⌝ }
+{
+    let end = checks::least(m, MOST_HELD - checks::least(held, MOST_HELD));
+    let mut at = held;
+    let mut from = 0;
+    while from < end {
+        containers[at] = more[from];
+        results[at] = values[from];
+        at += 1;
+        from += 1;
+    }
+    at
+}

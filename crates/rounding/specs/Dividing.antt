@@ -1,0 +1,29 @@
+-- Division of m·a by b with whole, rest and the nearest whole number.
+use mathlib.Core.Bool.{Bool, _&&_, _||_}
+use Prim.Native.Nat.{ℕ, _*_, _/_, _%_, _^_, _≤_, _<_}
+use lib.Dec.{eqb, leb, ltb}
+use Rattle.rules.specs.Choice.{pick}
+use Rattle.rules.specs.Rounding.{nearestOf}
+use Rattle.rounding.specs.declared.Division.{Division}
+
+-- m is at most 100, b neither 0 nor too large, and a / b not too large: no number on the way then needs more than 64 bits
+abbrev pub workable : ℕ → ℕ → ℕ → Bool
+workable m a b = leb m 100 && (leb 1 b && (ltb b (2 ^ 56) && ltb (a / b) (2 ^ 50)))
+
+-- the same, as facts
+pub record Workable (m a b : ℕ) : Type 0 where
+  pub scale : m ≤ 100
+  pub positive : 1 ≤ b
+  pub under : b < 2 ^ 56
+  pub whole : a / b < 2 ^ 50
+
+-- m·a / b, and nothing but zeros where it is not workable
+abbrev pub divisionOf : ℕ → ℕ → ℕ → Division
+divisionOf m a b =
+    pick (workable m a b)
+    (record { whole = m * a / b; rest = m * a % b; nearest = nearestOf (m * a) b })
+    (record { whole = 0; rest = 0; nearest = 0 })
+
+-- whether a quotient is above t
+abbrev pub isAbove : Division → ℕ → Bool
+isAbove d t = ltb t (d .whole) || (eqb t (d .whole) && ltb 0 (d .rest))
