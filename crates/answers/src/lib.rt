@@ -11,8 +11,6 @@ use rules::TextSize;
 use rules::Tolerance;
 use rules::Written;
 
-pub mod codes;
-
 // ---- calls that give a number
 
 fn told(e: Refusal, value: u32) -> Answered

@@ -7,7 +7,7 @@ use decimal_words::Word;
 pub const MOST_NUMBERS: usize = 64;
 
 // Where the line's first word ends, how many numbers stand behind it, and where the next line starts.
-pub struct Line {
+pub struct CallLine {
     pub end: usize,
     pub count: usize,
     pub next: usize,
@@ -45,7 +45,7 @@ fn keep(numbers: &mut [u32; MOST_NUMBERS], at: usize, n: u32) {
 }
 
 // The line that starts at `at`; its numbers go to the places from 0 on.
-pub fn line_at(text: &[u8], at: usize, numbers: &mut [u32; MOST_NUMBERS]) -> Line
+pub fn line_at(text: &[u8], at: usize, numbers: &mut [u32; MOST_NUMBERS]) -> CallLine
     requires { ⌜ at < length (now text) ⌝ }
     ensures { λ r. ⌜ (at ≤ r .end) × (r .end < r .next) × (r .end ≤ length (now (text .entry))) ⌝ }
 {
@@ -55,7 +55,7 @@ pub fn line_at(text: &[u8], at: usize, numbers: &mut [u32; MOST_NUMBERS]) -> Lin
     while end < text.len() {
         let next = end + 1;
         if text[end] == b'\n' {
-            return Line {
+            return CallLine {
                 end: first,
                 count,
                 next,
@@ -66,7 +66,7 @@ pub fn line_at(text: &[u8], at: usize, numbers: &mut [u32; MOST_NUMBERS]) -> Lin
         count += 1;
         end = stop;
     }
-    Line {
+    CallLine {
         end: first,
         count,
         next: end + 1,

@@ -14,7 +14,7 @@ use Rattle.rules.specs.Text.{byte}
 use Rattle.rules.specs.Report.{reportText}
 use Rattle.rules.specs.Lines.{ended, cutFrom, linesOf}
 use Rattle.rules.specs.Frames.{frameOf}
-use Rattle.rules.specs.Reading.{State, Next, goes, stops, Outcome, accepted, refused, stepOf, after, readFrom, readOf, atStart}
+use Rattle.rules.specs.Reading.{State, Next, goes, stops, SheetOutcome, accepted, refused, stepOf, after, readFrom, readOf, atStart}
 use Rattle.rules.specs.Printing.{refusedLine, printed, printedFor}
 use Rattle.rules.specs.declared.Figures.{Figures}
 use Rattle.rules.specs.declared.Frame.{Frame}
@@ -49,7 +49,7 @@ end-shows (x ∷ xs) s es n h = refl
 shown-is : (a b : List ℕ) → shows a ≡ shows b → a ≡ b
 shown-is a b e = cc
 
-line-shows : (f : Frame) (s : State) (es : List Entry) (line : ℕ) (k : State → Evaluated) (m : State → Outcome) (out : List ℕ) → ResultsSoFar s es
+line-shows : (f : Frame) (s : State) (es : List Entry) (line : ℕ) (k : State → Evaluated) (m : State → SheetOutcome) (out : List ℕ) → ResultsSoFar s es
     → ((t : State) → ResultsSoFar t (es ++ entryOf f) → k t ≡ shows out → printed (m t) ≡ out)
     → evaluatedAfter (stepAt f s) line k ≡ shows out → printed (after (stepOf f s) line m) ≡ out
 line-shows f s es line k m out h next e = by (stepOf f s) refl (rw (step-same f s es h) at e)

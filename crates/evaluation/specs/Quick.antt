@@ -13,7 +13,7 @@ use Rattle.rules.specs.Cards.{rowsGood, criticalsGood}
 use Rattle.rules.specs.Rounding.{nearestOf}
 use Rattle.rules.specs.Attributes.{isVoid, meanScale}
 use Rattle.rules.specs.Figures.{meanOf, ratio, reportedH, exceeds, toleratedUpto}
-use Rattle.rules.specs.Report.{findingsOf, countLine, meanLine, verdictWord, limitText, valueLine, lotWord, lotLine, findingsText, reportText}
+use Rattle.rules.specs.Report.{findingsOf, countLine, meanLine, verdictWord, limitText, valueLine, lotWord, lotVerdictLine, findingsText, reportText}
 use Rattle.rules.specs.Fields.{allDigits, valueOf, numberBehind, number, fieldOf}
 use Rattle.rules.specs.Frames.{lotFrame, cardFrame, criticalFrame, rangeFrame, resultFrame, endFrame, kindFrame, frameOf}
 use Rattle.rules.specs.Stages.{mayStand, isEnded}
@@ -84,7 +84,7 @@ quickFrom whole sofar (x ∷ xs) s es n =
 -- Of a whole sheet, and of every sheet that begins with these bytes. To unfold one of these is to unfold all that it computes with,
 -- so every definition on the way to the printed bytes that is not an abbrev stands here.
 unfoldable pub quickOf : List ℕ → Evaluated
-unfolding quickFrom resultAt report gathered figuresOver frameOf kindFrame lotFrame cardFrame criticalFrame rangeFrame resultFrame endFrame allDigits fieldOf number numberBehind valueOf lotStep cardStep criticalStep rangeStep endStep rowsGood criticalsGood refusedLine findingsText findingsOf countLine meanLine valueLine lotLine lotWord limitText verdictWord pointed decimal decimals lastDigits meanOf meanScale isVoid ratio reportedH exceeds toleratedUpto nearestOf
+unfolding quickFrom resultAt report gathered figuresOver frameOf kindFrame lotFrame cardFrame criticalFrame rangeFrame resultFrame endFrame allDigits fieldOf number numberBehind valueOf lotStep cardStep criticalStep rangeStep endStep rowsGood criticalsGood refusedLine findingsText findingsOf countLine meanLine valueLine lotVerdictLine lotWord limitText verdictWord pointed decimal decimals lastDigits meanOf meanScale isVoid ratio reportedH exceeds toleratedUpto nearestOf
 quickOf sheet = quickFrom true [] sheet atStart [] 0
 
 unfoldable pub quickBegins : List ℕ → Evaluated

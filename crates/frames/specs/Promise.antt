@@ -11,7 +11,7 @@ use Rattle.rules.specs.Frames.{frameOf}
 use Rattle.rules.specs.declared.Frame.{Frame}
 use Rattle.rules.specs.declared.Frame.the-variants.{Bad}
 use Rattle.cutter.specs.Runs.{lineAt, digitsAt}
-use Rattle.frames.specs.declared.Line.{Line}
+use Rattle.frames.specs.declared.FramedLine.{FramedLine}
 
 -- the frame of the line that starts at a, which has to have an end byte
 abbrev pub frameAt : List ℕ → ℕ → Frame
@@ -19,7 +19,7 @@ frameAt s a = pick (ltb (a + length (lineAt s a)) (length s)) (frameOf (lineAt s
 
 -- the frame, and where the line's digits end, on a bad line too: that is the place of the end byte where the line has nothing but
 -- digits
-pub record LineAt (s : List ℕ) (a : ℕ) (r : Line) : Type 0 where
+pub record LineAt (s : List ℕ) (a : ℕ) (r : FramedLine) : Type 0 where
   pub frame : r .frame ≡ frameAt s a
   pub digits : r .end ≡ a + length (digitsAt s a)
   pub end : allDigits (lineAt s a) ≡ true → r .end ≡ a + length (lineAt s a)

@@ -15,7 +15,7 @@ use rules::RANGE_DIGITS;
 use rules::RESULT_DIGITS;
 
 // A line's frame, and where its digits end: on a line of digits alone, the place of its end byte.
-pub struct Line {
+pub struct FramedLine {
     pub frame: Frame,
     pub end: usize,
 }
@@ -151,24 +151,24 @@ fn frame_of(line: &[u8]) -> Frame
 }
 
 // What the line that starts at `at` says. A line with another byte than digits, or without its end byte, is a bad one.
-pub fn line_at(sheet: &[u8], at: usize) -> Line
+pub fn line_at(sheet: &[u8], at: usize) -> FramedLine
     ensures { λ r. ⌜ LineAt (now (sheet .entry)) at r ⌝ }
 {
     let digits = cutter::cut(sheet, at);
     let end = at + digits.len();
     if sheet.len() <= end {
-        return Line {
+        return FramedLine {
             frame: Frame::Bad,
             end: end,
         };
     }
     if sheet[end] != b'\n' {
-        return Line {
+        return FramedLine {
             frame: Frame::Bad,
             end: end,
         };
     }
-    Line {
+    FramedLine {
         frame: frame_of(digits),
         end: end,
     }

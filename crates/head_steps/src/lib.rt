@@ -60,7 +60,7 @@ fn lot_step(p: Progress, a: u16, n: u16) -> HeadLine
     if !stages::takes(stage, 1) {
         return HeadLine::Refused(Refusal::OutOfTurn);
     }
-    if !cards::lot_good(a, n) {
+    if !card_parts::lot_good(a, n) {
         return HeadLine::Refused(Refusal::BadLot);
     }
     let lot = Lot {
@@ -90,7 +90,7 @@ fn card_step(p: Progress, f: u16, g: u16, n: u16) -> HeadLine
     if !stages::takes(stage, 2) {
         return HeadLine::Refused(Refusal::OutOfTurn);
     }
-    if !cards::head_good(lot.attribute, head) {
+    if !card_parts::head_good(lot.attribute, head) {
         return HeadLine::Refused(Refusal::BadCard);
     }
     HeadLine::Taken(Progress {
@@ -111,7 +111,7 @@ fn critical_step(p: Progress, critical: &mut [u32; CRITICALS], k: u16, v: u16) -
     if !stages::takes(stage, 3) {
         return HeadLine::Refused(Refusal::OutOfTurn);
     }
-    if !cards::critical_follows(p.last, k) {
+    if !card_parts::critical_follows(p.last, k) {
         return HeadLine::Refused(Refusal::BadCard);
     }
     critical[k as usize] = v as u32 + 1;
@@ -144,7 +144,7 @@ fn range_step(
     if !stages::takes(stage, 4) {
         return HeadLine::Refused(Refusal::OutOfTurn);
     }
-    if !cards::row_good(l, h, b) {
+    if !card_parts::row_good(l, h, b) {
         return HeadLine::Refused(Refusal::BadCard);
     }
     if MOST_ROWS <= at {

@@ -14,7 +14,7 @@ use Rattle.rules.specs.Limits.{leastReported}
 use Rattle.rules.specs.Contents.{Contents}
 use Rattle.rules.specs.Ledger.{Ledger, held, withContents, enterNumber}
 use Rattle.rules.specs.Report.{reportOf}
-use Rattle.rules.specs.Reading.{Outcome, accepted, refused, readOf}
+use Rattle.rules.specs.Reading.{SheetOutcome, accepted, refused, readOf}
 use Rattle.rules.specs.Printing.{printed, printedFor}
 use Rattle.rules.specs.declared.Lot.{Lot}
 use Rattle.rules.specs.declared.Card.{Card}
@@ -35,11 +35,11 @@ made-factor l c es g (enters {g = h} k x m e) = by (eqb (enterNumber h k x) 0) _
     by false f i = i
 
 module _ (sheet text : List ℕ) (p : text ≡ printedFor sheet) where
-  is : (o : Outcome) → readOf sheet ≡ o → text ≡ printed o
+  is : (o : SheetOutcome) → readOf sheet ≡ o → text ≡ printed o
   unfolding printedFor
   is o q = p ∙ ap printed q
 
-  prints : (o : Outcome) → readOf sheet ≡ o → Prints sheet text
+  prints : (o : SheetOutcome) → readOf sheet ≡ o → Prints sheet text
   prints (refused e line) q = faulty e line q (is (refused e line) q)
   prints (accepted g n) q = by (decLe leastReported (held g))
     where

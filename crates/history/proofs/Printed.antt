@@ -12,7 +12,7 @@ use Rattle.rules.specs.Limits.{leastReported}
 use Rattle.rules.specs.Text.{text, byte, lastDigit, decimals, decimal, lastDigits, pointed}
 use Rattle.rules.specs.Attributes.{attributeOf, isVoid, meanPlaces}
 use Rattle.rules.specs.Figures.{figures, meanOf, exceeds, verdictBy, together}
-use Rattle.rules.specs.Report.{countLine, meanLine, verdictWord, limitText, valueLine, lotWord, lotLine, valueH, valueR, noValue, foundWith, findingsOf, findingsText, reportOf}
+use Rattle.rules.specs.Report.{countLine, meanLine, verdictWord, limitText, valueLine, lotWord, lotVerdictLine, valueH, valueR, noValue, foundWith, findingsOf, findingsText, reportOf}
 use Rattle.rules.specs.Ledger.{Ledger, held}
 use Rattle.rules.specs.declared.Attribute.{Attribute}
 use Rattle.rules.specs.declared.Value.{Value}
@@ -136,7 +136,7 @@ module _ (g : Ledger) (many : leastReported ≤ held g) (factor : 1 ≤ g .card 
       (pick b (foundWith (attribute g) (figures g) true noValue noValue Undecided) (foundWith (attribute g) (figures g) false (h g) (r g) (lot g)))
 
   lines-by : (b : Bool) → isVoid (attribute g) (held g) (figures g .sum) ≡ b → ReportLines g (textBy b)
-  unfolding findingsText countLine meanLine valueLine lotLine count-line mean-line valued endless
+  unfolding findingsText countLine meanLine valueLine lotVerdictLine count-line mean-line valued endless
   lines-by true e =
       record {
         count = count-line g;

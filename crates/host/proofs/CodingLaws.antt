@@ -12,7 +12,7 @@ use Rattle.sheet.specs.declared.Answer.{Answer}
 use Rattle.sheet.specs.declared.Answer.the-variants.{Accepted, Refused}
 use Rattle.sheet.specs.declared.Reading.{Reading}
 use Rattle.writer.specs.Promise.{Wrote}
-use Rattle.answers.specs.Codes.{refusalCode, sizeCode}
+use Rattle.codes.specs.Codes.{refusalCode, sizeCode}
 use Rattle.host.specs.Coding.{codeAndBytes, textCode, writtenBack, rewriteOn}
 
 -- a text's answer, its size, and the size's code

@@ -2,9 +2,9 @@
 use mathlib.Core.List.{List}
 use Prim.Native.Nat.{ℕ}
 use Rattle.rules.specs.Numbers.{TextAnswer}
-use Rattle.rules.specs.Reading.{Outcome, accepted, refused, readOf}
+use Rattle.rules.specs.Reading.{SheetOutcome, accepted, refused, readOf}
 use Rattle.rules.specs.Writing.{writeOn}
-use Rattle.answers.specs.Codes.{refusalCode, codeOf}
+use Rattle.codes.specs.Codes.{refusalCode, codeOf}
 
 -- what a call answers, and the whole buffer afterwards
 pub record CodeAndBytes : Type 0 where
@@ -18,7 +18,7 @@ abbrev pub textCode : TextAnswer → CodeAndBytes
 textCode t = codeAndBytes (codeOf (t .number) (t .size)) (t .bytes)
 
 -- a sheet that was read, written back: as the writer has it; or the reader's refusal, and the buffer as it was
-abbrev pub writtenBack : Outcome → List ℕ → CodeAndBytes
+abbrev pub writtenBack : SheetOutcome → List ℕ → CodeAndBytes
 writtenBack (accepted g lines) d = textCode (writeOn g d)
 writtenBack (refused e line) d = codeAndBytes (refusalCode e) d
 

@@ -5,10 +5,9 @@ ghost use Rattle.rules.specs.Sampling.{samplingOf};
 ghost use Rattle.rules.specs.Tolerance.{labelOf, pairOf};
 ghost use Rattle.rules.specs.Mixing.{mixingOf};
 ghost use Rattle.rules.specs.Printing.{printOn};
-ghost use Rattle.answers.specs.Codes.{answerCode};
+ghost use Rattle.codes.specs.Codes.{answerCode};
 ghost use Rattle.host.specs.Coding.{codeAndBytes, textCode, rewriteOn};
-use answers::codes;
-use answers::codes::REFUSED;
+use codes::REFUSED;
 use sheet::Answer;
 
 // The number of primary samples for so many containers of so many whole kg each.

@@ -14,8 +14,8 @@ use Rattle.rules.specs.Text.{text, laid, laidIn}
 use Rattle.rules.specs.Attributes.{attributeOf, isVoid, placesOfX, placesOfMean, meanPlaces}
 use Rattle.rules.specs.Figures.{figures, verdictH, verdictR, together}
 use Rattle.rules.specs.Ledger.{held}
-use Rattle.rules.specs.Report.{valueH, valueR, noValue, foundWith, findingsOf, countLine, meanLine, verdictWord, limitText, valueLine, lotWord, lotLine, findingsText, reportOf}
-use Rattle.rules.specs.Reading.{Outcome, accepted, refused, readOf}
+use Rattle.rules.specs.Report.{valueH, valueR, noValue, foundWith, findingsOf, countLine, meanLine, verdictWord, limitText, valueLine, lotWord, lotVerdictLine, findingsText, reportOf}
+use Rattle.rules.specs.Reading.{SheetOutcome, accepted, refused, readOf}
 use Rattle.rules.specs.Printing.{refusedLine, printed, printedFor, printOn}
 use Rattle.rules.specs.declared.Attribute.{Attribute}
 use Rattle.rules.specs.declared.Attribute.the-variants.{Purity, Germination, Count}
@@ -71,8 +71,8 @@ lot-word-most Kept = omega arith
 lot-word-most Over = omega arith
 lot-word-most Undecided = omega arith
 
-lot-most : (void : Bool) (v : Verdict) → length (lotLine void v) ≤ 18
-unfolding lotLine
+lot-most : (void : Bool) (v : Verdict) → length (lotVerdictLine void v) ≤ 18
+unfolding lotVerdictLine
 lot-most void v = pick-most void _ _ 18 (omega arith) (simp length-append (omega (arith, lot-word-most v)))
 
 -- the places of what is found
@@ -119,7 +119,7 @@ lines-most s few =
     ))
 
 -- ---- whatever is printed
-outcome-most : (o : Outcome) → length (printed o) ≤ 256
+outcome-most : (o : SheetOutcome) → length (printed o) ≤ 256
 outcome-most (accepted g lines) =
     pick-most (ltb (held g) leastReported) (refusedLine 15 lines) (reportOf g) 256
     (omega (arith, refused-most 15 lines))

@@ -15,7 +15,7 @@ use Rattle.rules.specs.Text.{byte}
 use Rattle.rules.specs.Contents.{total}
 use Rattle.rules.specs.Lines.{ended, cutFrom, linesOf}
 use Rattle.rules.specs.Frames.{lotFrame, cardFrame, criticalFrame, rangeFrame, resultFrame, endFrame, kindFrame, frameOf}
-use Rattle.rules.specs.Reading.{State, Next, goes, stops, Outcome, refused, stepOf, after, readFrom, atStart, readOf}
+use Rattle.rules.specs.Reading.{State, Next, goes, stops, SheetOutcome, refused, stepOf, after, readFrom, atStart, readOf}
 use Rattle.rules.specs.Printing.{printed, printedFor}
 use Rattle.rules.specs.declared.Frame.the-variants.{Bad}
 use Rattle.rules.proofs.Taken.{taken}
@@ -51,7 +51,7 @@ long-line (x ∷ xs) sofar s n h = by (eqb x 10) (long-line xs (sofar ++ byte x)
 
 -- ---- the first k bytes, behind the bytes so far of a line: each line that is taken needs one place more than a frame's digits, and
 -- one more line is looked at
-after-same : (x : Next) (n : ℕ) (f g : State → Outcome) → ((u : State) → x ≡ goes u → f u ≡ g u) → after x n f ≡ after x n g
+after-same : (x : Next) (n : ℕ) (f g : State → SheetOutcome) → ((u : State) → x ≡ goes u → f u ≡ g u) → after x n f ≡ after x n g
 after-same (goes u) n f g h = h u refl
 after-same (stops e) n f g h = refl
 

@@ -1,2 +1,2 @@
-pub mod Words
-pub mod Lengths
+pub mod Parts
+pub mod Pieces

@@ -2,17 +2,25 @@
 ghost use mathlib.Core.Path.{_≡_};
 ghost use mathlib.Core.List.{_++_};
 ghost use Rattle.rules.specs.Numbers.{reportedAnswer};
-ghost use Rattle.rules.specs.Text.{text, pointed, laidIn};
-ghost use Rattle.rules.specs.Report.{limitText, valueLine, lotLine, findingsText};
+ghost use Rattle.rules.specs.Text.{byte as Text·byte, text, pointed, laidIn};
+ghost use Rattle.rules.specs.Report.{countLine, meanLine, verdictWord, limitText, valueLine, lotWord, lotVerdictLine, findingsText};
 ghost use Rattle.decimal.specs.Laying.{LaysAt, LaysLine};
-ghost use Rattle.report_lines.specs.Words.{wordFor};
 use rules::Findings;
 use rules::Limit;
 use rules::Reported;
 use rules::Value;
 use rules::Verdict;
 
-mod sizes;
+// One byte, at at.
+fn byte(buf: &mut [u8], at: usize, x: u8) -> usize
+    ensures { λ r. ⌜ LaysAt (Text·byte x) at (now (buf .entry)) (now (buf .exit)) r ⌝ }
+{
+    if buf.len() <= at {
+        return at;
+    }
+    buf[at] = x;
+    at + 1
+}
 
 // A limit with its places, or the word none, from at on.
 fn limit_text(buf: &mut [u8], at: usize, places: u8, l: Limit) -> usize
@@ -24,14 +32,25 @@ fn limit_text(buf: &mut [u8], at: usize, places: u8, l: Limit) -> usize
     }
 }
 
-// The word of three that a verdict has, from at on.
-fn word(buf: &mut [u8], at: usize, v: Verdict, kept: &[u8], over: &[u8], undecided: &[u8]) -> usize
-    ensures { λ r. ⌜ LaysAt (wordFor v (now (kept .entry)) (now (over .entry)) (now (undecided .entry))) at (now (buf .entry)) (now (buf .exit)) r ⌝ }
+// The word for the verdict of H or of R, from at on.
+fn verdict_word(buf: &mut [u8], at: usize, v: Verdict) -> usize
+    ensures { λ r. ⌜ LaysAt (verdictWord v) at (now (buf .entry)) (now (buf .exit)) r ⌝ }
 {
     match v {
-        Verdict::Kept => decimal::bytes(buf, at, kept),
-        Verdict::Over => decimal::bytes(buf, at, over),
-        Verdict::Undecided => decimal::bytes(buf, at, undecided),
+        Verdict::Kept => decimal::bytes(buf, at, b"kept"),
+        Verdict::Over => decimal::bytes(buf, at, b"over"),
+        Verdict::Undecided => decimal::bytes(buf, at, b"open"),
+    }
+}
+
+// The word for the lot's verdict, from at on.
+fn lot_word(buf: &mut [u8], at: usize, v: Verdict) -> usize
+    ensures { λ r. ⌜ LaysAt (lotWord v) at (now (buf .entry)) (now (buf .exit)) r ⌝ }
+{
+    match v {
+        Verdict::Kept => decimal::bytes(buf, at, b"even"),
+        Verdict::Over => decimal::bytes(buf, at, b"heterogeneous"),
+        Verdict::Undecided => decimal::bytes(buf, at, b"open"),
     }
 }
 
@@ -41,7 +60,7 @@ fn number_line(buf: &mut [u8], name: &[u8], places: u8, n: u64) -> usize
 {
     let a = decimal::bytes(buf, 0, name);
     let b = decimal::pointed(buf, a, places, n);
-    decimal::bytes(buf, b, b"\n")
+    byte(buf, b, b'\n')
 }
 
 // H 1.55 1.55 over, or H void; R likewise.
@@ -55,44 +74,58 @@ fn value_line(buf: &mut [u8], name: &[u8], void: bool, v: Value) -> usize
     let limit = v.limit;
     let verdict = v.verdict;
     let b = decimal::pointed(buf, a, v.places, v.value);
-    let c = decimal::bytes(buf, b, b" ");
+    let c = byte(buf, b, b' ');
     let d = limit_text(buf, c, v.places, limit);
-    let e = decimal::bytes(buf, d, b" ");
-    let f = word(buf, e, verdict, b"kept", b"over", b"open");
-    decimal::bytes(buf, f, b"\n")
+    let e = byte(buf, d, b' ');
+    let f = verdict_word(buf, e, verdict);
+    byte(buf, f, b'\n')
 }
 
 // LOT heterogeneous
 fn lot_line(buf: &mut [u8], void: bool, v: Verdict) -> usize
-    ensures { λ r. ⌜ LaysLine (lotLine void v) (now (buf .entry)) (now (buf .exit)) r ⌝ }
+    ensures { λ r. ⌜ LaysLine (lotVerdictLine void v) (now (buf .entry)) (now (buf .exit)) r ⌝ }
 {
     let a = decimal::bytes(buf, 0, b"LOT ");
     if void {
         return decimal::bytes(buf, a, b"void\n");
     }
-    let end = word(buf, a, v, b"even", b"heterogeneous", b"open");
+    let end = lot_word(buf, a, v);
     decimal::bytes(buf, end, b"\n")
 }
 
-// The five lines, each in the rest of the buffer; the length of all.
-fn lines(buf: &mut [u8], s: Findings) -> usize
-    ensures { λ r. ⌜ LaysLine (findingsText s) (now (buf .entry)) (now (buf .exit)) r ⌝ }
+// N and the mean.
+fn count_and_mean(buf: &mut [u8], s: Findings) -> usize
+    ensures { λ r. ⌜ LaysLine (countLine (s .count) ++ meanLine (s .places) (s .mean)) (now (buf .entry)) (now (buf .exit)) r ⌝ }
+{
+    let a = number_line(buf, b"N ", 0, s.count as u64);
+    a + number_line(&mut buf[a..], b"MEAN ", s.places, s.mean)
+}
+
+// H, R and the lot.
+fn values_and_lot(buf: &mut [u8], s: Findings) -> usize
+    ensures { λ r. ⌜ LaysLine (valueLine (text "H ") (s .void) (s .h) ++ valueLine (text "R ") (s .void) (s .r) ++ lotVerdictLine (s .void) (s .lot)) (now (buf .entry)) (now (buf .exit)) r ⌝ }
 {
     let h = s.h;
     let r = s.r;
     let lot = s.lot;
-    let a = number_line(buf, b"N ", 0, s.count as u64);
-    let b = a + number_line(&mut buf[a..], b"MEAN ", s.places, s.mean);
-    let c = b + value_line(&mut buf[b..], b"H ", s.void, h);
-    let d = c + value_line(&mut buf[c..], b"R ", s.void, r);
-    d + lot_line(&mut buf[d..], s.void, lot)
+    let a = value_line(buf, b"H ", s.void, h);
+    let b = a + value_line(&mut buf[a..], b"R ", s.void, r);
+    b + lot_line(&mut buf[b..], s.void, lot)
+}
+
+// The five lines; the length of all.
+fn lines(buf: &mut [u8], s: Findings) -> usize
+    ensures { λ r. ⌜ LaysLine (findingsText s) (now (buf .entry)) (now (buf .exit)) r ⌝ }
+{
+    let a = count_and_mean(buf, s);
+    a + values_and_lot(&mut buf[a..], s)
 }
 
 // The text of findings and its length. Where it does not fit, nothing is written.
 pub fn five_lines(buf: &mut [u8], s: Findings) -> Reported
     ensures { λ r. ⌜ reportedAnswer r (now (buf .exit)) ≡ laidIn (findingsText s) (now (buf .entry)) ⌝ }
 {
-    if buf.len() < sizes::size(s) {
+    if buf.len() < report_size::size(s) {
         return Reported::BufferShort;
     }
     Reported::Length(lines(buf, s))

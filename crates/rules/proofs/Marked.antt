@@ -11,7 +11,7 @@ use Rattle.rules.specs.Cards.{rowsGood, criticalsGood}
 use Rattle.rules.specs.Rounding.{nearestOf}
 use Rattle.rules.specs.Attributes.{isVoid, meanScale}
 use Rattle.rules.specs.Figures.{meanOf, ratio, reportedH, exceeds, toleratedUpto}
-use Rattle.rules.specs.Report.{findingsOf, countLine, meanLine, verdictWord, limitText, valueLine, lotWord, lotLine, findingsText}
+use Rattle.rules.specs.Report.{findingsOf, countLine, meanLine, verdictWord, limitText, valueLine, lotWord, lotVerdictLine, findingsText}
 use Rattle.rules.specs.Lines.{cutFrom}
 use Rattle.rules.specs.Fields.{allDigits, valueOf, numberBehind, number, fieldOf}
 use Rattle.rules.specs.Frames.{lotFrame, cardFrame, criticalFrame, rangeFrame, resultFrame, endFrame, kindFrame, frameOf}
@@ -75,7 +75,7 @@ tabled [] = []
 tabled (c ∷ cs) = text (c .printed) ∷ tabled cs
 
 pub marked-sheets : defined marked ≡ tabled marked
-unfolding printedFor readOf readFrom cutFrom frameOf kindFrame lotFrame cardFrame criticalFrame rangeFrame resultFrame endFrame allDigits fieldOf number numberBehind valueOf lotStep cardStep criticalStep rangeStep resultStep endStep total largest smallest rowsGood criticalsGood refusedLine findingsText findingsOf countLine meanLine valueLine lotLine lotWord limitText verdictWord pointed decimal decimals lastDigits meanOf meanScale isVoid ratio reportedH exceeds toleratedUpto nearestOf
+unfolding printedFor readOf readFrom cutFrom frameOf kindFrame lotFrame cardFrame criticalFrame rangeFrame resultFrame endFrame allDigits fieldOf number numberBehind valueOf lotStep cardStep criticalStep rangeStep resultStep endStep total largest smallest rowsGood criticalsGood refusedLine findingsText findingsOf countLine meanLine valueLine lotVerdictLine lotWord limitText verdictWord pointed decimal decimals lastDigits meanOf meanScale isVoid ratio reportedH exceeds toleratedUpto nearestOf
 marked-sheets = refl
 
 -- a call beside the tally: what the definition answers, and what it should

@@ -8,14 +8,14 @@ use Rattle.rules.specs.Numbers.{TextAnswer}
 use Rattle.rules.specs.Text.{text, decimal, laidIn}
 use Rattle.rules.specs.Ledger.{held}
 use Rattle.rules.specs.Report.{reportOf}
-use Rattle.rules.specs.Reading.{Outcome, accepted, refused, readOf}
+use Rattle.rules.specs.Reading.{SheetOutcome, accepted, refused, readOf}
 
 -- REFUSED 8 6
 unfoldable pub refusedLine : ℕ → ℕ → List ℕ
 refusedLine e line = text "REFUSED " ++ decimal e ++ text " " ++ decimal line ++ text "\n"
 
 -- too few results are refused at the last line, that of the 06 frame
-abbrev pub printed : Outcome → List ℕ
+abbrev pub printed : SheetOutcome → List ℕ
 printed (accepted g lines) = pick (ltb (held g) leastReported) (refusedLine 15 lines) (reportOf g)
 printed (refused e line) = refusedLine e line
 

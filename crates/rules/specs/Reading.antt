@@ -33,9 +33,9 @@ pub data Next : Type 0 where
   stops : ℕ → Next
 
 -- a sheet yields a ledger, with the number of its lines; or it is refused, with the number and the line
-pub data Outcome : Type 0 where
-  accepted : Ledger → ℕ → Outcome
-  refused : ℕ → ℕ → Outcome
+pub data SheetOutcome : Type 0 where
+  accepted : Ledger → ℕ → SheetOutcome
+  refused : ℕ → ℕ → SheetOutcome
 
 -- ---- the state behind a frame
 abbrev pub onLot : State → Lot → State
@@ -112,12 +112,12 @@ stepOf (frame.Result c x) s = resultStep s c x
 stepOf (frame.End n) s = endStep s n
 
 -- ---- line by line
-abbrev pub after : Next → ℕ → (State → Outcome) → Outcome
+abbrev pub after : Next → ℕ → (State → SheetOutcome) → SheetOutcome
 after (goes s) line k = k s
 after (stops e) line k = refused e line
 
 -- the lines that follow, n lines having been read; the sheet may not end before 06
-unfoldable pub readFrom : List Line → State → ℕ → Outcome
+unfoldable pub readFrom : List Line → State → ℕ → SheetOutcome
 readFrom [] s n = pick (isEnded (s .stage)) (accepted (s .ledger) n) (refused 2 (n + 1))
 readFrom (unended ∷ ls) s n = refused 1 (n + 1)
 readFrom (ended d ∷ ls) s n = after (stepOf (frameOf d) s) (n + 1) (λ t. readFrom ls t (n + 1))
@@ -125,5 +125,5 @@ readFrom (ended d ∷ ls) s n = after (stepOf (frameOf d) s) (n + 1) (λ t. read
 abbrev pub atStart : State
 atStart = record { stage = stage.Start; lot = freshLot; card = freshCard; last = 0; results = 0; ledger = freshLedger }
 
-unfoldable pub readOf : List ℕ → Outcome
+unfoldable pub readOf : List ℕ → SheetOutcome
 readOf s = readFrom (linesOf s) atStart 0

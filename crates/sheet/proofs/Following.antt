@@ -16,7 +16,7 @@ use Rattle.rules.specs.Fields.{allDigits}
 use Rattle.rules.specs.Lines.{linesOf}
 use Rattle.rules.specs.Frames.{frameOf}
 use Rattle.rules.specs.Stages.{isOpened, isEnded}
-use Rattle.rules.specs.Reading.{State, Next, goes, stops, Outcome, accepted, refused, stepOf, after, readFrom}
+use Rattle.rules.specs.Reading.{State, Next, goes, stops, SheetOutcome, accepted, refused, stepOf, after, readFrom}
 use Rattle.rules.specs.declared.Lot.{Lot}
 use Rattle.rules.specs.declared.Card.{Card}
 use Rattle.rules.specs.declared.Refusal.{Refusal}
@@ -24,7 +24,7 @@ use Rattle.rules.specs.declared.Stage.{Stage}
 use Rattle.rules.specs.declared.Frame.{Frame}
 use Rattle.rules.specs.declared.Frame.the-variants.{Bad}
 use Rattle.cutter.specs.Runs.{lineAt}
-use Rattle.frames.specs.declared.Line.{Line}
+use Rattle.frames.specs.declared.FramedLine.{FramedLine}
 use Rattle.frames.specs.Promise.{LineAt}
 use Rattle.cutter.proofs.Lines.{lines-ended, lines-unended, lines-none}
 use Rattle.held_lists.specs.Places.{stored}
@@ -48,17 +48,17 @@ taken-frame f t q e = let z : _≡_ {A = ℕ} 0 1 = cc (ap (λ (g : Frame). step
 pub result-frame : (f : Frame) → isResult f ≡ true → f ≡ Bad → ⊥
 result-frame f q e = true≢false (sym q ∙ ap isResult e)
 
-after-unless : (b : Bool) (e n : ℕ) (x : Next) (k : State → Outcome) → after (unless b (stops e) x) n k ≡ unless b (refused e n) (after x n k)
+after-unless : (b : Bool) (e n : ℕ) (x : Next) (k : State → SheetOutcome) → after (unless b (stops e) x) n k ≡ unless b (refused e n) (after x n k)
 after-unless true e n x k = refl
 after-unless false e n x k = refl
 
 -- ---- the line that starts at a, the n-th, with the frame and the end that were found
-module _ {s : List ℕ} {a n : ℕ} {f : Line} (starts : Starts s a n) (h : a < length s) (at : LineAt s a f) where
+module _ {s : List ℕ} {a n : ℕ} {f : FramedLine} (starts : Starts s a n) (h : a < length s) (at : LineAt s a f) where
   -- where the line ends, and what is left of the sheet behind it
   abbrev over : ℕ
   over = a + length (lineAt s a)
 
-  abbrev behind : State → Outcome
+  abbrev behind : State → SheetOutcome
   behind u = readRest s (f .end + 1) u (n + 1)
 
   -- a line without its end byte, with another byte than digits before it, or of digits alone
@@ -87,7 +87,7 @@ module _ {s : List ℕ} {a n : ℕ} {f : Line} (starts : Starts s a n) (h : a < 
       (λ k q r. rw (lines-ended s a k, number, ← q, r) refl)
       (λ k q e. rw (lines-ended s a k, number, ← q) (λ i. after (stepOf (f .frame) t) n (λ u. readFrom (linesOf (drop (e i + 1) s)) u (next i))))
 
-  pub line-comes : {o : Outcome} {x : Next} (t : State) → o ≡ readRest s a t n → stepOf (f .frame) t ≡ x → o ≡ after x n behind
+  pub line-comes : {o : SheetOutcome} {x : Next} (t : State) → o ≡ readRest s a t n → stepOf (f .frame) t ≡ x → o ≡ after x n behind
   line-comes t e q = e ∙ (line-is t ∙ ap (λ (y : Next). after y n behind) q)
 
   -- a line that is not bad has its end byte, and the next one may start behind it
@@ -96,7 +96,7 @@ module _ {s : List ℕ} {a n : ℕ} {f : Line} (starts : Starts s a n) (h : a < 
       ways (λ k q. absurd (z q)) (λ k q r. absurd (z r)) (λ k q e. (record { within = omega arith; first = omega arith; few = omega arith }, omega arith))
 
   -- the results begin with it
-  pub results-follow : {o : Outcome} (p : Progress) (l m : Lists) → o ≡ readRest s a (stateOf p l) n → isOpened (p .stage) ≡ false
+  pub results-follow : {o : SheetOutcome} (p : Progress) (l m : Lists) → o ≡ readRest s a (stateOf p l) n → isOpened (p .stage) ≡ false
       → HeadEnds (f .frame) p l m → HeadRead o s (p .lot) (cardRead p m) (p .last) a n
   results-follow p l m q i e =
       let number = openNumber (p .lot) (cardRead p l) in
@@ -121,7 +121,7 @@ pub unended : (s : Stage) → isOpened s ≡ false → isEnded s ≡ false
 unended = at-every-stage (λ s. isOpened s ≡ false → isEnded s ≡ false) (λ e. refl) (λ e. refl) (λ e. refl) (λ e. refl) (λ e. refl) (λ e. refl) (λ e. e)
 
 -- ---- the answer to the open, where the results begin
-pub read-as : {o q : Outcome} {r : Reading} → ReadAs o r → o ≡ q → ReadAs q r
+pub read-as : {o q : SheetOutcome} {r : Reading} → ReadAs o r → o ≡ q → ReadAs q r
 read-as h e = record { right = h .right ∙ e; sound = h .sound; empty = h .empty }
 
 module _ (s : List ℕ) (a n last : ℕ) {l : Lot} {c : Card} {e : Refusal} (answer : Opens l c e) {m : ℕ} (is : m ≡ numberOf e) where

@@ -1,11 +1,11 @@
--- What the tables 14G and 14H have for a number.
+-- What the tables 14G and 14H have for a number, and a row as the code has it.
 use Prim.Native.Nat.{ℕ}
 use lib.Dec.{leb, ltb}
 use lib.ListN.{getD}
 use Rattle.rules.specs.Choice.{pick}
-use Rattle.rules.specs.Tolerance as rules
-use Rattle.tolerance_tables.specs.declared.Row.{Row}
 use Rattle.rules.specs.Tolerance.{table14G, table14H, differenceFor}
+use Rattle.rules.specs.Tolerance as rules
+use Rattle.tolerance_tables.specs.declared.tables.Row.{Row}
 use Rattle.tolerance_tables.specs.declared.Entry.{Entry}
 use Rattle.tolerance_tables.specs.declared.Entry.the-variants.{AtMost, Outside}
 

@@ -1,7 +1,7 @@
 -- `host::gelvorin_label` meets its contract. Assumes nothing.
 use mathlib.Core.Path.{ap, _∙_}
 use borrow.Author.Needs.{needs}
-use Rattle.answers.specs.Codes.{answerCode}
+use Rattle.codes.specs.Codes.{answerCode}
 use Rattle.host.proofs.gelvorin_label.Statement.{statement}
 use Rattle.host.proofs.gelvorin_label.Tie as tie
 

@@ -1,7 +1,6 @@
 -- `report_lines::value_line` meets its contract: its pieces, one behind the other. Assumes nothing.
 use Rattle.rules.specs.Report.{valueLine}
 use Rattle.decimal.proofs.LayingLaws.{piece, then-piece, a-line}
-use Rattle.report_lines.proofs.Words.{verdict-is}
 use borrow.Author.Needs.{needs}
 use Rattle.report_lines.proofs.value_line.Statement.{statement}
 use Rattle.report_lines.proofs.value_line.Tie as tie
@@ -18,27 +17,23 @@ returns-2 : tie.Need-returns-2
 unfolding valueLine
 returns-2 c =
     let end = c .before .before in
-    let verdict = end .before .before .before .before .before in
-    let blank₂ = verdict .before .before .before .before .before .before .before in
-    let limit = blank₂ .before .before .before .before .before in
+    let verdict = end .before .before .before .before in
+    let blank₂ = verdict .before .before .before .before in
+    let limit = blank₂ .before .before .before .before in
     let blank₁ = limit .before .before .before .before in
-    let value = blank₁ .before .before .before .before .before in
+    let value = blank₁ .before .before .before .before in
     let name = value .before .before .before .before .before in
     let one = piece _ _ _ _ _ (name .bytes .ensures) (name .bytes .kept .0) in
     let two = then-piece _ _ _ _ _ _ _ _ one (value .pointed .ensures) (value .pointed .kept .0) in
-    let three = then-piece _ _ _ _ _ _ _ _ two (blank₁ .bytes3 .ensures) (blank₁ .bytes3 .kept .0) in
+    let three = then-piece _ _ _ _ _ _ _ _ two (blank₁ .byte .ensures) (blank₁ .byte .kept .0) in
     let four = then-piece _ _ _ _ _ _ _ _ three (limit .limit-text .ensures) (limit .limit-text .kept .0) in
-    let five = then-piece _ _ _ _ _ _ _ _ four (blank₂ .bytes4 .ensures) (blank₂ .bytes4 .kept .0) in
-    let six = then-piece _ _ _ _ _ _ _ _ five (verdict .word .ensures) (verdict .word .kept .0) in
-    rw (value .before .before .if1 .left, verdict-is _)
-    (a-line _ _ _ _ (then-piece _ _ _ _ _ _ _ _ six (end .bytes5 .ensures) (end .bytes5 .kept .0)))
-
-same-length-2 : tie.Need-same-length-2
-same-length-2 c = returns-2 c .size
+    let five = then-piece _ _ _ _ _ _ _ _ four (blank₂ .byte2 .ensures) (blank₂ .byte2 .kept .0) in
+    let six = then-piece _ _ _ _ _ _ _ _ five (verdict .verdict-word .ensures) (verdict .verdict-word .kept .0) in
+    rw (value .before .before .if1 .left)
+    (a-line _ _ _ _ (then-piece _ _ _ _ _ _ _ _ six (end .byte3 .ensures) (end .byte3 .kept .0)))
 
 pub value-line-spec : {M : Type 1} → statement M
 value-line-spec =
     tie.close
-    (tie.spec (λ c κs. search needs) (λ c. search needs) (λ c κs. search needs) (λ c. search needs) returns (λ c κs. search needs) (λ c. search needs)
-    (λ c κs. search needs) (λ c κs. search needs) (λ c. search needs) (λ c κs. search needs) (λ c. search needs) (λ c. search needs)
-    (λ c. search needs) (λ c κs. search needs) (λ c. search needs) (λ c κs. search needs) same-length-2 returns-2)
+    (tie.spec (λ c κs. search needs) (λ c. search needs) (λ c κs. search needs) (λ c. search needs) returns (λ c κs. search needs)
+    (λ c κs. search needs) (λ c κs. search needs) (λ c κs. search needs) (λ c κs. search needs) (λ c κs. search needs) (λ c. search needs) returns-2)

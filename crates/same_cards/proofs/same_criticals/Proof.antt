@@ -3,9 +3,9 @@ use Prim.Native.Nat.{_≤_, _-_}
 use borrow.Author.Needs.{needs}
 use Rattle.rules.specs.Cards.{agree}
 use Rattle.rules.specs.Limits.{criticals}
-use native.Mathlib.Numerals.{add-one}
 use native.Mathlib.Omega.{arith}
 use mathlib.Core.Path.{_≡_, refl}
+use Rattle.same_cards.proofs.Walks.{agree-more}
 use Rattle.same_cards.proofs.same_criticals.Statement.{statement}
 use Rattle.same_cards.proofs.same_criticals.Tie as tie
 
@@ -20,11 +20,10 @@ unfolding agree
 loop-holds c = (search needs, refl)
 
 loop-again : tie.Need-loop-again Inv-loop μ-loop
-unfolding agree
-loop-again c = (search needs, rw add-one (cc))
+loop-again c = (search needs, agree-more _ _ _ _ (c .before .before .before .loop .inv .1))
 
 returns : tie.Need-returns Inv-loop μ-loop
-returns c = let e : c .before .loop .i ≡ criticals = omega arith in cc
+returns c = let e : c .before .loop .i ≡ criticals = omega arith in rw e at (c .before .loop .inv .1)
 
 pub same-criticals-spec : {M : Type 1} → statement M
 same-criticals-spec =

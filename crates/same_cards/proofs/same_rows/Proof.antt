@@ -1,10 +1,10 @@
 -- `same_cards::same_rows` meets its contract.
 use borrow.Author.Needs.{needs}
-use native.Mathlib.Numerals.{add-one}
 use Prim.Native.Nat.{_≤_, _-_}
 use Rattle.rules.specs.Cards.{sameRows}
 use mathlib.Core.Path.{_≡_, refl}
 use native.Mathlib.Omega.{arith}
+use Rattle.same_cards.proofs.Walks.{rows-more}
 use Rattle.same_cards.proofs.same_rows.Tie as tie
 use Rattle.same_cards.proofs.same_rows.Statement.{statement}
 
@@ -19,11 +19,10 @@ unfolding sameRows
 loop-holds c = (search needs, refl)
 
 loop-again : tie.Need-loop-again Inv-loop μ-loop
-unfolding sameRows
-loop-again c = (search needs, rw add-one (cc))
+loop-again c = (search needs, rows-more _ _ _ _ (c .before .before .before .before .before .before .before .before .before .loop .inv .1))
 
 returns : tie.Need-returns Inv-loop μ-loop
-returns c = let e : c .before .loop .i ≡ c .before .before .args .n = omega arith in cc
+returns c = let e : c .before .loop .i ≡ c .before .before .args .n = omega arith in rw e at (c .before .loop .inv .1)
 
 pub same-rows-spec : {M : Type 1} → statement M
 same-rows-spec =

@@ -12,7 +12,7 @@ use borrow.Author.Tests.{le-leb, lt-leb}
 use lib.ListN.{length, getD, List·getD-map}
 use Rattle.rules.specs.Tolerance.{row, table14H, differenceFor}
 use Rattle.rules.specs.Tolerance as rules
-use Rattle.tolerance_tables.specs.declared.Row.{Row}
+use Rattle.tolerance_tables.specs.declared.tables.Row.{Row}
 use Rattle.tolerance_tables.specs.Entries.{coded}
 use Rattle.tolerance_tables.proofs.Rising.{tops-rise}
 use Rattle.tolerance_tables.proofs.difference_for.Statement.{statement}
