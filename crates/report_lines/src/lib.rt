@@ -101,16 +101,23 @@ fn count_and_mean(buf: &mut [u8], s: Findings) -> usize
     a + number_line(&mut buf[a..], b"MEAN ", s.places, s.mean)
 }
 
+// H and R.
+fn two_values(buf: &mut [u8], s: Findings) -> usize
+    ensures { λ r. ⌜ LaysLine (valueLine (text "H ") (s .void) (s .h) ++ valueLine (text "R ") (s .void) (s .r)) (now (buf .entry)) (now (buf .exit)) r ⌝ }
+{
+    let h = s.h;
+    let r = s.r;
+    let a = value_line(buf, b"H ", s.void, h);
+    a + value_line(&mut buf[a..], b"R ", s.void, r)
+}
+
 // H, R and the lot.
 fn values_and_lot(buf: &mut [u8], s: Findings) -> usize
     ensures { λ r. ⌜ LaysLine (valueLine (text "H ") (s .void) (s .h) ++ valueLine (text "R ") (s .void) (s .r) ++ lotVerdictLine (s .void) (s .lot)) (now (buf .entry)) (now (buf .exit)) r ⌝ }
 {
-    let h = s.h;
-    let r = s.r;
     let lot = s.lot;
-    let a = value_line(buf, b"H ", s.void, h);
-    let b = a + value_line(&mut buf[a..], b"R ", s.void, r);
-    b + lot_line(&mut buf[b..], s.void, lot)
+    let a = two_values(buf, s);
+    a + lot_line(&mut buf[a..], s.void, lot)
 }
 
 // The five lines; the length of all.
