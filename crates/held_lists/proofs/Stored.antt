@@ -3,14 +3,16 @@ use Prim.Native.Nat.{ℕ, zero, suc, _+_, _≤_, _<_}
 use native.Mathlib.Omega.{arith}
 use native.Mathlib.Numerals.{add-one}
 use native.Mathlib.Decide.{ℕ-discrete, decLt}
-use mathlib.Core.Bool.{true}
+use mathlib.Core.Bool.{Bool, true, false, _||_}
 use mathlib.Core.Path.{_≡_, refl, sym, ap, _∙_}
 use mathlib.Core.List.{List}
 use lib.ListN.{length, getD, set}
-use lib.Dec.{ltb}
+use lib.Dec.{eqb, ltb}
 use lib.Seq.{getD-set-same, getD-set-other, set-getD}
 use borrow.Author.Tests.{eq-eqb, ne-eqb, lt-ltb, le-ltb}
+use Rattle.rules.specs.Choice.{pick}
 use Rattle.rules.specs.Contents.{Content, Contents, free, holds, put, isHeld, total, one, size}
+use Rattle.rules.proofs.Tests.{or-false}
 use Rattle.rules.proofs.ContentLaws.{put-other, put-self, put-put, put-comm, total-put, total-none}
 use Rattle.held_lists.specs.Places.{stored, FoundAt}
 
@@ -45,6 +47,21 @@ stored-held ks vs (suc n) k i a e = go (ℕ-discrete k (getD ks n 0)) (ℕ-discr
     go (yes q) d r = simp (eq-eqb k (getD ks n 0) q)
     go (no h) (yes q) r = absurd (h (sym e ∙ ap (λ (j : ℕ). getD ks j 0) q))
     go (no h) (no g) r = simp (ne-eqb k (getD ks n 0) h) (r (omega arith) e)
+
+-- a look at one place more
+or-true : (b : Bool) → b || true ≡ true
+or-true true = refl
+or-true false = refl
+
+held-pick : (b : Bool) (v : ℕ) (q : Content) → isHeld q || b ≡ isHeld (pick b (holds v) q)
+held-pick true v q = or-true (isHeld q)
+held-pick false v q = or-false (isHeld q)
+
+pub held-turn : (ks vs : List ℕ) (n k : ℕ) {found : Bool} → found ≡ isHeld (stored ks vs n k) → found || eqb k (getD ks n 0) ≡ isHeld (stored ks vs (n + 1) k)
+unfolding stored
+held-turn ks vs n k q =
+    ap (λ (t : Bool). t || eqb k (getD ks n 0)) q
+    ∙ (held-pick (eqb k (getD ks n 0)) (getD vs n 0) (stored ks vs n k) ∙ ap (λ (m : ℕ). isHeld (stored ks vs m k)) (sym (add-one n)))
 
 -- what a look at the first n places finds
 pub found-held : (ks vs : List ℕ) (n k r : ℕ) → FoundAt ks n k r → ltb r n ≡ isHeld (stored ks vs n k)

@@ -23,11 +23,19 @@ pub fn place_of(l: &[u16; MOST_HELD], n: usize, k: u16) -> usize
     i
 }
 
-// Whether one of the first n places is of container k.
+// Whether one of the first n places is of container k. It looks at all of them, with no branch on the way, so that the compiler can
+// look at several at once.
 pub fn is_held(l: &[u16; MOST_HELD], n: usize, k: u16) -> bool
     ensures { λ r. ⌜ ((vs : List ℕ) → r ≡ isHeld (stored (now (l .entry)) vs (min n mostHeld) k)) ⌝ }
 {
-    place_of(l, n, k) < checks::least(n, MOST_HELD)
+    let end = checks::least(n, MOST_HELD);
+    let mut found = false;
+    let mut place = 0;
+    while place < end {
+        found = found | (k == l[place]);
+        place += 1;
+    }
+    found
 }
 
 // Whether one of the first m containers of o is among the first n of l.
