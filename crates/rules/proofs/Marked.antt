@@ -1,5 +1,5 @@
--- The marked cases C1 to C12 of document 01, true of the definitions: one table of sheets with every byte that lotreport prints,
--- and one of calls with their answers. Assumes nothing.
+-- The marked cases C1 to C12 of document 01, in one table, true of the definitions: sheets with every byte that lotreport prints, and
+-- calls with their answers. Assumes nothing.
 use mathlib.Core.Path.{_≡_, refl}
 use mathlib.Core.List.{List, [], _∷_}
 use Prim.Native.Nat.{ℕ}
@@ -21,16 +21,18 @@ use Rattle.rules.specs.Sampling.{samplingOf, samplesOf, table2A, table2B
 use Rattle.rules.specs.Tolerance.{labelOf, pairOf, differenceFor}
 use Rattle.rules.specs.declared.Answered.{Answered}
 
--- a sheet, and what lotreport prints for it
-pub record Case : Type 0 where
-  pub sheet : String
-  pub printed : String
+-- a case: a sheet and what lotreport prints for it, or a call beside the tally and its answer
+pub data Case : Type 0 where
+  prints : String → String → Case
+  answers : Answered → Answered → Case
 
-abbrev prints : String → String → Case
-prints s p = record { sheet = s; printed = p }
+-- what is told: bytes that are printed, or an answer
+pub data Told : Type 0 where
+  printed : List ℕ → Told
+  answered : Answered → Told
 
-abbrev pub marked : List Case
-marked =
+abbrev pub table : List Case
+table =
     -- C1 the sheet of document 01
     prints
     "01000028\n020A0A03E8\n0305009B\n040509264800C8\n0500032648\n05000825E4\n05000C26AC\n0500112648\n0500282648\n0605\n"
@@ -63,33 +65,8 @@ marked =
     ∷ prints
     "01020028\n0220000000\n03050139\n0500030000\n0500080000\n05000C0000\n0500110000\n050028000A\n0605\n"
     "N 5\nMEAN 2.0\nH 3.13 3.13 kept\nR 10 none open\nLOT open\n"
-    ∷ []
-
--- what the definition prints for each, and what the table says
-abbrev defined : List Case → List (List ℕ)
-defined [] = []
-defined (c ∷ cs) = printedFor (text (c .sheet)) ∷ defined cs
-
-abbrev tabled : List Case → List (List ℕ)
-tabled [] = []
-tabled (c ∷ cs) = text (c .printed) ∷ tabled cs
-
-pub marked-sheets : defined marked ≡ tabled marked
-unfolding printedFor readOf readFrom cutFrom frameOf kindFrame lotFrame cardFrame criticalFrame rangeFrame resultFrame endFrame allDigits fieldOf number numberBehind valueOf lotStep cardStep criticalStep rangeStep resultStep endStep total largest smallest rowsGood criticalsGood refusedLine findingsText findingsOf countLine meanLine valueLine lotVerdictLine lotWord limitText verdictWord pointed decimal decimals lastDigits meanOf meanScale isVoid ratio reportedH exceeds toleratedUpto nearestOf
-marked-sheets = refl
-
--- a call beside the tally: what the definition answers, and what it should
-pub record Call : Type 0 where
-  pub defined : Answered
-  pub expected : Answered
-
-abbrev answers : Answered → Answered → Call
-answers d e = record { defined = d; expected = e }
-
-abbrev pub markedCalls : List Call
-markedCalls =
     -- C9 4 and 10 seeds within; 0 and 5 within; 0 and 6 out
-    answers (pairOf 4 10) (gives 1)
+    ∷ answers (pairOf 4 10) (gives 1)
     ∷ answers (pairOf 0 5) (gives 1)
     ∷ answers (pairOf 0 6) (gives 0)
     -- C10 labelled 4: 7 within, 9 out
@@ -104,14 +81,17 @@ markedCalls =
     ∷ answers (samplingOf 2 200) (gives 6)
     ∷ []
 
-abbrev asDefined : List Call → List Answered
-asDefined [] = []
-asDefined (c ∷ cs) = c .defined ∷ asDefined cs
+-- what the definitions tell, and what they should
+abbrev pub told : List Case → List Told
+told [] = []
+told (prints sheet says ∷ cs) = printed (printedFor (text sheet)) ∷ told cs
+told (answers call says ∷ cs) = answered call ∷ told cs
 
-abbrev asExpected : List Call → List Answered
-asExpected [] = []
-asExpected (c ∷ cs) = c .expected ∷ asExpected cs
+abbrev pub due : List Case → List Told
+due [] = []
+due (prints sheet says ∷ cs) = printed (text says) ∷ due cs
+due (answers call says ∷ cs) = answered says ∷ due cs
 
-pub marked-calls : asDefined markedCalls ≡ asExpected markedCalls
-unfolding samplesOf table2A table2B unitsOf raised differenceFor
-marked-calls = refl
+pub marked : told table ≡ due table
+unfolding printedFor readOf readFrom cutFrom frameOf kindFrame lotFrame cardFrame criticalFrame rangeFrame resultFrame endFrame allDigits fieldOf number numberBehind valueOf lotStep cardStep criticalStep rangeStep resultStep endStep total largest smallest rowsGood criticalsGood refusedLine findingsText findingsOf countLine meanLine valueLine lotVerdictLine lotWord limitText verdictWord pointed decimal decimals lastDigits meanOf meanScale isVoid ratio reportedH exceeds toleratedUpto nearestOf samplesOf table2A table2B unitsOf raised differenceFor
+marked = refl
