@@ -26,13 +26,13 @@ pub record AcceptedFrom (ls : List Line) (s : State) (n : ℕ) (g : Ledger) (m :
   pub ledger : last .ledger ≡ g
   pub lines : m ≡ n + length ls
 
-refused-not : {A : Type 0} {g : Ledger} {m e n : ℕ} → refused e n ≡ accepted g m → A
+pub refused-not : {A : Type 0} {g : Ledger} {m e n : ℕ} → refused e n ≡ accepted g m → A
 refused-not q = absurd (let z : _≡_ {A = ℕ} 0 1 = cc in omega arith)
 
-same-ledger : {g h : Ledger} {m n : ℕ} → accepted g m ≡ accepted h n → g ≡ h
+pub same-ledger : {g h : Ledger} {m n : ℕ} → accepted g m ≡ accepted h n → g ≡ h
 same-ledger q = cc
 
-same-lines : {g h : Ledger} {m n : ℕ} → accepted g m ≡ accepted h n → m ≡ n
+pub same-lines : {g h : Ledger} {m n : ℕ} → accepted g m ≡ accepted h n → m ≡ n
 same-lines q = cc
 
 pub accepted-from : (ls : List Line) (s : State) (n : ℕ) (g : Ledger) (m : ℕ) → readFrom ls s n ≡ accepted g m → AcceptedFrom ls s n g m

@@ -1,8 +1,9 @@
 pub mod StageLaws
 pub mod Accepted
+pub mod Fitting
 pub mod Falling
 pub mod Prefix
+pub mod SheetLength
 pub mod Spelt
-pub mod Fitting
 pub mod Ready
 pub mod Longest

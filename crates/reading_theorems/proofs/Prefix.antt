@@ -2,7 +2,7 @@
 use mathlib.Core.Path.{_≡_, refl, sym, ap, _∙_}
 use mathlib.Core.Bool.{Bool, true, false}
 use mathlib.Core.List.{List, [], _∷_, _++_}
-use Prim.Native.Nat.{ℕ, zero, suc, _+_, _*_, _≤_, _<_}
+use Prim.Native.Nat.{ℕ, zero, suc, _+_, _≤_, _<_}
 use native.Mathlib.Omega.{arith}
 use native.Mathlib.Decide.{decLe}
 use lib.Dec.{eqb}
@@ -10,16 +10,17 @@ use lib.ListN.{length, take, length-append}
 use lib.Seq.{take-nil}
 use borrow.Author.Tests.{ne-eqb}
 use Rattle.rules.specs.Choice.{pick}
-use Rattle.rules.specs.Limits.{lotDigits, cardDigits, rangeDigits, endDigits, mostDigits, bytesThatDecide}
+use Rattle.rules.specs.Limits.{lotDigits, cardDigits, rangeDigits, endDigits, mostDigits, mostBytes}
 use Rattle.rules.specs.Text.{byte}
-use Rattle.rules.specs.Contents.{total}
 use Rattle.rules.specs.Lines.{ended, cutFrom, linesOf}
 use Rattle.rules.specs.Frames.{lotFrame, cardFrame, criticalFrame, rangeFrame, resultFrame, endFrame, kindFrame, frameOf}
 use Rattle.rules.specs.Reading.{State, Next, goes, stops, SheetOutcome, refused, stepOf, after, readFrom, atStart, readOf}
 use Rattle.rules.specs.Printing.{printed, printedFor}
 use Rattle.rules.specs.declared.Frame.the-variants.{Bad}
 use Rattle.rules.proofs.Taken.{taken}
-use Rattle.reading_theorems.proofs.Falling.{room, headRoom, falls}
+use Rattle.reading_theorems.specs.Lengths.{bytesThatDecide, PrefixDecides}
+use Rattle.reading_theorems.proofs.Fitting.{frame-fits}
+use Rattle.reading_theorems.proofs.Falling.{room, falls, room-start}
 
 -- ---- a line of more digits than any frame has is bad
 bad-either : (b : Bool) → pick b Bad Bad ≡ Bad
@@ -49,20 +50,19 @@ long-line (x ∷ xs) sofar s n h = by (eqb x 10) (long-line xs (sofar ++ byte x)
     by true r = rw (long-bad sofar h) refl
     by false r = r
 
--- ---- the first k bytes, behind the bytes so far of a line: each line that is taken needs one place more than a frame's digits, and
--- one more line is looked at
+-- ---- the first k bytes, behind the bytes so far of a line: as many as can still be taken, and those of one line more
 after-same : (x : Next) (n : ℕ) (f g : State → SheetOutcome) → ((u : State) → x ≡ goes u → f u ≡ g u) → after x n f ≡ after x n g
 after-same (goes u) n f g h = h u refl
 after-same (stops e) n f g h = refl
 
-decided : (s sofar : List ℕ) (t : State) (n k : ℕ) → length sofar ≤ mostDigits → (mostDigits + 1) * (room t + 1) ≤ k + length sofar
+decided : (s sofar : List ℕ) (t : State) (n k : ℕ) → length sofar ≤ mostDigits → room t + mostBytes ≤ k + length sofar
     → readFrom (cutFrom sofar (take k s)) t n ≡ readFrom (cutFrom sofar s) t n
 unfolding cutFrom readFrom
 decided [] sofar t n k h j = rw take-nil refl
 decided (x ∷ xs) sofar t n zero h j = absurd (omega arith)
 decided (x ∷ xs) sofar t n (suc k) h j =
     by (eqb x 10)
-    (λ u e. decided xs [] u (n + 1) k (omega arith) (omega (arith, falls t u (taken (frameOf sofar) t u e))))
+    (λ u e. decided xs [] u (n + 1) k (omega arith) (omega (arith, falls (length sofar) t u (frame-fits sofar) (taken (frameOf sofar) t u e))))
     (λ q. decided xs (sofar ++ byte x) t n k q (simp length-append (omega arith)))
   where
     by : (b : Bool) → ((u : State) → stepOf (frameOf sofar) t ≡ goes u → readFrom (linesOf (take k xs)) u (n + 1) ≡ readFrom (linesOf xs) u (n + 1))
@@ -76,12 +76,6 @@ decided (x ∷ xs) sofar t n (suc k) h j =
         long (yes q) = g q
         long (no q) = long-line (take k xs) (sofar ++ byte x) t n (omega arith) ∙ sym (long-line xs (sofar ++ byte x) t n (omega arith))
 
--- 222 lines at most are taken
-room-start : room atStart ≡ 222
-unfolding room headRoom total
-room-start = refl
-
--- what is printed for the bytes that decide is printed for all of them, however many follow
-pub prefix-printed : (s : List ℕ) → printedFor (take bytesThatDecide s) ≡ printedFor s
+pub prefix-printed : PrefixDecides
 unfolding printedFor readOf
-prefix-printed s = ap printed (decided s [] atStart 0 bytesThatDecide (omega arith) (omega (arith, room-start)))
+prefix-printed s k h = ap printed (decided s [] atStart 0 k (omega arith) (omega (arith, room-start)))

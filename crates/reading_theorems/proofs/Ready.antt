@@ -29,7 +29,7 @@ use Rattle.reading_theorems.proofs.Falling.{critical-rises}
 use Rattle.reading_theorems.proofs.Fitting.{Fits, frame-fits}
 
 -- each number of a list fits four digits
-abbrev FourDigits : List ℕ → Type 0
+abbrev pub FourDigits : List ℕ → Type 0
 FourDigits l = (i : ℕ) → getD l i 0 ≤ widest
 
 -- lot and card as far as they were read
@@ -43,7 +43,7 @@ pub record Ready (s : State) : Type 0 where
   pub full : Full (s .card)
   pub narrow : FourDigits (s .card .tolerated)
 
-zero-at : (n : ℕ) → FourDigits (replicate n 0)
+pub zero-at : (n : ℕ) → FourDigits (replicate n 0)
 zero-at zero i = omega arith
 zero-at (suc n) zero = omega arith
 zero-at (suc n) (suc i) = zero-at n i
@@ -129,10 +129,10 @@ ready-ledger : (s : State) (t : Stage) (n : ℕ) (g : Ledger) → Ready s → 2 
 ready-ledger s t n g r h =
     record { lot = λ i. r .lot (omega arith); few = r .few; head = λ i. r .head h; critical = r .critical; rows = r .rows; most = r .most; full = r .full; narrow = r .narrow }
 
-ready-taken : {f : Frame} (s u : State) → Fits f → Ready s → Taken s f u → Ready u
-ready-taken s u w r (lot t g) =
-    record { lot = λ i. g; few = w; head = λ i. absurd (omega arith); critical = r .critical; rows = r .rows; most = r .most; full = r .full; narrow = r .narrow }
-ready-taken s u w r (card {f} {g} {n} t q) =
+ready-taken : {f : Frame} (n : ℕ) (s u : State) → Fits n f → Ready s → Taken s f u → Ready u
+ready-taken m s u w r (lot t g) =
+    record { lot = λ i. g; few = w .1; head = λ i. absurd (omega arith); critical = r .critical; rows = r .rows; most = r .most; full = r .full; narrow = r .narrow }
+ready-taken m s u w r (card {f} {g} {n} t q) =
     record {
       lot = λ i. r .lot (omega (arith, follows 2 (s .stage) t .first (omega arith)));
       few = r .few;
@@ -143,20 +143,20 @@ ready-taken s u w r (card {f} {g} {n} t q) =
       full = full-head (s .card) (headOf f g n) (r .full);
       narrow = r .narrow;
     }
-ready-taken s u w r (critical {k} {v} t q) =
+ready-taken m s u w r (critical {k} {v} t q) =
     let b = follows 3 (s .stage) t .later (omega arith) in
     let n = critical-rises (s .last) k q in
     record {
       lot = λ i. r .lot (omega arith);
       few = r .few;
       head = λ i. r .head b;
-      critical = critical-set (s .card .critical) k (v + 1) criticals (omega (arith, r .full .critical)) (good-critical k v (n .0) w) (r .critical);
+      critical = critical-set (s .card .critical) k (v + 1) criticals (omega (arith, r .full .critical)) (good-critical k v (n .0) (w .1)) (r .critical);
       rows = rows-same (withCritical (s .card) k v) (s .card) (s .card .rows) (λ i h. (refl, refl, refl)) ∙ r .rows;
       most = r .most;
       full = full-critical (s .card) k v (r .full);
       narrow = r .narrow;
     }
-ready-taken s u w r (range {l} {h} {b} {r = x} t q few) =
+ready-taken m s u w r (range {l} {h} {b} {r = x} t q few) =
     let c = s .card in
     let d = follows 4 (s .stage) t .later (omega arith) in
     record {
@@ -167,12 +167,12 @@ ready-taken s u w r (range {l} {h} {b} {r = x} t q few) =
       rows = row-more c l h b x (r .full) few (r .rows) q;
       most = omega arith;
       full = full-row c l h b x (r .full);
-      narrow = narrow-set (c .tolerated) (c .rows) x (omega (arith, r .full .tolerated)) w (r .narrow);
+      narrow = narrow-set (c .tolerated) (c .rows) x (omega (arith, r .full .tolerated)) (w .1) (r .narrow);
     }
-ready-taken s u w r (result t b e) = ready-ledger s _ _ _ r (follows 5 (s .stage) t .later (omega arith))
-ready-taken s u w r (ends t b e) = ready-ledger s _ _ _ r (follows 6 (s .stage) t .later (omega arith))
+ready-taken m s u w r (result t b e) = ready-ledger s _ _ _ r (follows 5 (s .stage) t .later (omega arith))
+ready-taken m s u w r (ends t b e) = ready-ledger s _ _ _ r (follows 6 (s .stage) t .later (omega arith))
 
 -- lines that lead on lead from a ready state to a ready one
 pub ready-led : {ls : List Line} (s v : State) → Ready s → Leads s ls v → Ready v
 ready-led s v r nothing = r
-ready-led s v r (line {u} {d} t rest) = ready-led u v (ready-taken s u (frame-fits d) r t) rest
+ready-led s v r (line {u} {d} t rest) = ready-led u v (ready-taken (length d) s u (frame-fits d) r t) rest

@@ -7,14 +7,14 @@ use native.Mathlib.Omega.{arith}
 use lib.Dec.{eqb}
 use lib.ListN.{length, getD, length-append}
 use Rattle.rules.specs.Choice.{pick}
-use Rattle.rules.specs.Limits.{criticals}
+use Rattle.rules.specs.Limits.{criticals, lotBytes, cardBytes, criticalBytes, rangeBytes, resultBytes, endBytes}
 use Rattle.rules.specs.Contents.{Content, Contents, free, holds, one, total}
 use Rattle.rules.specs.Ledger.{Ledger, held, containers}
 use Rattle.rules.specs.Writing.{lotLine, cardLine, criticalLine, rangeLine, resultLine, endLine, maybeLine, criticalLines, rangeLines, placeLine, resultLines, sheetOf}
 use Rattle.rules.specs.declared.Head.{Head}
 use Rattle.rules.specs.declared.Card.{Card}
 use Rattle.rules.proofs.FieldLaws.{length-digits}
-use Rattle.writer.specs.Promise.{lotBytes, cardBytes, criticalBytes, rangeBytes, resultBytes, endBytes, counted, isFilled, filled, sheetRoom}
+use Rattle.writer.specs.Promise.{counted, isFilled, filled, sheetRoom}
 use Rattle.writer.proofs.Counting.{counted-most, count-next, count-room}
 
 lot-length : (a n : ℕ) → length (lotLine a n) ≡ lotBytes
