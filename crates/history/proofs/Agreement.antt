@@ -3,6 +3,7 @@ use Prim.Native.Nat.{ℕ}
 use native.Mathlib.Decide.{ℕ-discrete}
 use mathlib.Core.Path.{_≡_, refl, sym, ap, ap₂, _∙_, subst}
 use mathlib.Core.List.{List, _∷_}
+use denote.Ref.{now}
 use Rattle.rules.specs.Numbers.{numberOf}
 use Rattle.rules.specs.Ledger.{Ledger, Judged, freshLedger, openOn, enterOn, withdrawOn, joinOn}
 use Rattle.rules.specs.Cards.{openNumber}
@@ -14,6 +15,9 @@ use Rattle.held_lists.specs.Places.{stored}
 use Rattle.tally.specs.View.{view}
 use Rattle.tally.specs.Calls.{Sound, Opened, answer}
 use Rattle.tally.proofs.Answer.{fresh-sound}
+use Rattle.sheet.specs.declared.Answer.{Answer}
+use Rattle.sheet.specs.Promise.{outcomeOf}
+use Rattle.reading_theorems.proofs.Spelt.{spelled}
 use Rattle.history.specs.Calls.{Calls, judge, ledger, answers}
 use Rattle.history.specs.Run.{Run, begun, taken, opened, entered, withdrawn, joined, read}
 use Rattle.history.proofs.Sheets.{made-ledger, made-answers}
@@ -64,4 +68,6 @@ agrees (joined {r = r} t o u v j) =
     let h = agrees v in
     let e = further r _ (j .right (i .sound, h .sound) ∙ ap₂ (λ (f g : Ledger). joinOn f g) (i .same) (h .same)) (i .judged) in
     record { same = e .0; judged = e .1; sound = j .sound (i .sound, h .sound) }
-agrees (read κ sheet x a m) = record { same = sym (made-ledger m); judged = made-answers m; sound = x .sound }
+agrees (read {n = n} {r = r} κ sheet x a) =
+    let m = spelled (now sheet) (view (r .tally)) n (sym (x .right) ∙ ap (λ (o : Answer). outcomeOf o (r .tally)) a) in
+    record { same = sym (made-ledger m); judged = made-answers m; sound = x .sound }

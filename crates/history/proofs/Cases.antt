@@ -6,10 +6,13 @@ use mathlib.Core.List.{List, [], _∷_, _++_}
 use lib.ListN.{replicate}
 use Rattle.rules.specs.declared.Lot.{Lot}
 use Rattle.rules.specs.declared.Card.{Card}
+use Rattle.rules.specs.Numbers.{refusesText}
 use Rattle.rules.specs.Contents.{total, shared}
+use Rattle.rules.specs.Report.{reportOn}
+use Rattle.rules.specs.Writing.{writeOn}
 use Rattle.rules.specs.Limits.{mostHeld, mostRows, criticals}
 use Rattle.rules.specs.Cards.{headOf, cardOf, withRows, rowsGood, criticalsGood, agree, sameRows}
-use Rattle.history.specs.Calls.{Calls, start, opens, enters, withdraws, joins, judge, answers, counts}
+use Rattle.history.specs.Calls.{Calls, start, opens, enters, withdraws, joins, judge, ledger, answers, counts}
 
 -- an attribute and the number of containers
 abbrev lotOf : ℕ → ℕ → Lot
@@ -40,6 +43,15 @@ open-numbers = refl
 fresh-numbers : answers (withdraws (enters (enters (enters start 0 10001) 1 0) 1 10001) 1) ≡ 10 ∷ 6 ∷ 6 ∷ 6 ∷ []
 unfolding answers judge
 fresh-numbers = refl
+
+-- report 15 and the sheet writer 3, into any buffer: where it is short as well, 16 is not the answer
+fresh-report : (b : List ℕ) → reportOn (ledger start) b ≡ refusesText 15 b
+unfolding judge total
+fresh-report b = refl
+
+fresh-sheet : (b : List ℕ) → writeOn (ledger start) b ≡ refusesText 3 b
+unfolding judge
+fresh-sheet b = refl
 
 -- an enter: no such container before result too high before already held; a withdraw answers 10 alone
 abbrev some : Calls

@@ -19,7 +19,7 @@ use Rattle.rules.specs.Printing.{printed, printedFor}
 use Rattle.rules.specs.declared.Lot.{Lot}
 use Rattle.rules.specs.declared.Card.{Card}
 use Rattle.rules.proofs.Bounds.{opened-head}
-use Rattle.reading_theorems.specs.Spelling.{Entry, Made, opens, enters, entriesOf}
+use Rattle.reading_theorems.specs.Spelling.{Entry, Made, opens, enters, entriesOf, sheetLot, sheetCard}
 use Rattle.reading_theorems.proofs.Spelt.{spelled}
 use Rattle.history.specs.EverySheet.{Prints, faulty, few, judged, EverySheet}
 use Rattle.history.proofs.Texts.{laid-text}
@@ -47,7 +47,7 @@ module _ (sheet text : List ℕ) (p : text ≡ printedFor sheet) where
       by (yes h) =
           let t : text ≡ reportOf g = is (accepted g n) q ∙ rw (le-ltb (held g) leastReported h) refl in
           let s = spelled sheet g n q in
-          judged g n q s h t (rw t (lines g h (made-factor (s .lot) (s .card) (entriesOf sheet) g (s .made))))
+          judged g n q s h t (rw t (lines g h (made-factor (sheetLot sheet) (sheetCard sheet) (entriesOf sheet) g s)))
       by (no h) = few g n q (omega arith) (is (accepted g n) q ∙ rw (lt-ltb (held g) leastReported (omega arith)) refl)
 
 pub every-sheet : EverySheet

@@ -1,8 +1,8 @@
 -- What the text of a report says of N and of H. Assumes nothing.
 use Prim.Native.Nat.{ℕ, zero, suc, _+_, _*_, _/_, _^_, _≤_, _<_}
 use native.Mathlib.Omega.{arith}
-use mathlib.Core.Path.{_≡_, refl, ap}
-use mathlib.Core.Bool.{Bool, true, false}
+use mathlib.Core.Path.{_≡_, refl, sym, ap, _∙_}
+use mathlib.Core.Bool.{Bool, true, false, true≢false}
 use mathlib.Core.List.{List, _++_, append-assoc}
 use lib.Dec.{eqb, ltb}
 use lib.ListN.{getD}
@@ -147,6 +147,7 @@ module _ (g : Ledger) (many : leastReported ≤ held g) (factor : 1 ≤ g .card 
         five = five-lines (count-endless g) (mean-endless g) (written (text "H void") refl) (written (text "R void") refl) (written (text "LOT void") refl);
         number = refl;
         void = λ q. e;
+        beyond = λ q. (refl, refl, refl);
         worked = λ n. absurd (n refl);
       }
   lines-by false e =
@@ -163,6 +164,7 @@ module _ (g : Ledger) (many : leastReported ≤ held g) (factor : 1 ≤ g .card 
             (joined (written (text "LOT ") refl) (lot-endless (lot g)));
         number = refl;
         void = λ q. absurd (never-void (h g) q);
+        beyond = λ q. absurd (true≢false (sym q ∙ e));
         worked = λ n. worked-out g (under-positive (attribute g) (g .card .head) (figures g) e (omega arith) factor);
       }
 

@@ -8,24 +8,21 @@ use denote.Ref.{now}
 use Rattle.rules.specs.Limits.{leastReported}
 use Rattle.rules.specs.Contents.{Contents, total, size}
 use Rattle.rules.specs.Report.{reportOn}
+use Rattle.rules.specs.Writing.{writeOn}
 use Rattle.rules.specs.Ledger.{Ledger, held, openOn, enterOn, withdrawOn, joinOn}
 use Rattle.rules.proofs.Bounds.{opened-head}
 use Rattle.tally.specs.declared.Tally.{Tally}
 use Rattle.tally.specs.View.{view}
 use Rattle.tally.specs.Calls.{Sound}
 use Rattle.tally.proofs.Steps.{size-is}
-use Rattle.sheet.specs.declared.Answer.{Answer}
-use Rattle.sheet.specs.Promise.{outcomeOf}
-use Rattle.reading_theorems.proofs.Spelt.{spelled}
 use Rattle.history.specs.Calls.{Calls, ledger}
-use Rattle.history.specs.Run.{Run, read}
-use Rattle.history.specs.Sheets.{SheetsAreRuns}
+use Rattle.history.specs.Run.{Run}
 use Rattle.history.specs.Whole.{Ends, Whole}
 use Rattle.history.specs.Alike.{OrderIsFree}
 use Rattle.history.proofs.Balance.{balanced}
 use Rattle.history.proofs.Agreement.{agrees}
 use Rattle.history.proofs.Printed.{lines}
-use Rattle.history.proofs.Reporting.{same-report, enough, text-is}
+use Rattle.history.proofs.Reporting.{same-report, same-sheet, enough, text-is}
 
 ends : (cs : Calls) (ns : List ℕ) (t : Tally) → Run cs ns t → Ends cs ns t
 ends cs ns t r =
@@ -57,7 +54,7 @@ whole =
       alike = λ cs ds ns ms t u p q e κ₁ κ₂ b₁ b₂ l r₁ r₂ a₁ a₂ x y.
           let i = agrees p in
           let j = agrees q in
-          same-report (now b₁) (now b₂) r₁ r₂ (now a₁) (now a₂) (ledger cs) l
+          same-report (ledger cs) (now b₁) (now b₂) r₁ r₂ (now a₁) (now a₂) l
           (x .right (i .sound) ∙ ap (λ (g : Ledger). reportOn g (now b₁)) (i .same))
           (y .right (j .sound) ∙ ap (λ (g : Ledger). reportOn g (now b₂)) (j .same ∙ sym e));
       reports = λ cs ns t p κ b n a x.
@@ -80,9 +77,8 @@ order-is-free cs ds ns ms t u p q e =
           let m = agrees f in
           let n = agrees h in
           a .right (i .sound, m .sound) ∙ (ap₂ (λ (x y : Ledger). joinOn x y) s (m .same ∙ (d ∙ sym (n .same))) ∙ sym (b .right (j .sound, n .sound)));
+      writes = λ κ₁ κ₂ b₁ b₂ l r₁ r₂ a₁ a₂ x y.
+          same-sheet (view t) (now b₁) (now b₂) r₁ r₂ (now a₁) (now a₂) l
+          (x .right (i .sound))
+          (y .right (j .sound) ∙ ap (λ (g : Ledger). writeOn g (now b₂)) (sym s));
     }
-
-pub sheets-are-runs : SheetsAreRuns
-sheets-are-runs κ sheet r n x a =
-    let s = spelled (now sheet) (view (r .tally)) n (sym (x .right) ∙ ap (λ (o : Answer). outcomeOf o (r .tally)) a) in
-    record { lot = s .lot; card = s .card; run = read κ sheet x a (s .made) }

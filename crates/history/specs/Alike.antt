@@ -1,34 +1,48 @@
--- When two tallies answer alike, and two reports are alike: the order in which a tally stores its results is free, and no answer
--- depends on it.
+-- When two tallies answer alike, and two texts that were laid down: the order in which a tally stores its results is free, and no
+-- answer depends on it.
 use Prim.Native.Nat.{ℕ}
 use mathlib.Core.Path.{_≡_}
 use mathlib.Core.List.{List}
-use lib.ListN.{take, drop}
-use Rattle.rules.specs.Numbers.{reportedAnswer}
+use lib.ListN.{length, take, drop}
+use base.Fml.{Lft}
+use denote.Ref.{RefT, now}
+use Rattle.rules.specs.Numbers.{reportedSize, writtenSize}
 use Rattle.rules.specs.declared.Lot.{Lot}
 use Rattle.rules.specs.declared.Card.{Card}
 use Rattle.rules.specs.declared.Reported.{Reported}
+use Rattle.rules.specs.declared.Written.{Written}
 use Rattle.tally.specs.declared.Tally.{Tally}
 use Rattle.tally.specs.declared.Outcome.{Outcome}
 use Rattle.tally.specs.Calls.{answer}
 use Rattle.history.specs.Calls.{Calls, ledger}
 use Rattle.history.specs.Run.{Run}
-use Rattle.history.specs.Steps.{OpenStep, EnterStep, WithdrawStep, JoinStep}
+use Rattle.history.specs.Steps.{OpenStep, EnterStep, WithdrawStep, JoinStep, WriteStep}
 
--- two tallies answer a further call with one number, and stand for one ledger after it
+-- Two calls that write answer alike, r₁ and r₂ with texts of so many bytes: the same refusal, or the same length and the same text.
+-- Every other byte of either buffer stays.
+pub record SameText {R : Type 0} (size : R → ℕ) (b₁ b₂ : List ℕ) (r₁ r₂ : R) (a₁ a₂ : List ℕ) : Type 0 where
+  pub answer : r₁ ≡ r₂
+  pub text : take (size r₁) a₁ ≡ take (size r₂) a₂
+  pub rest₁ : drop (size r₁) a₁ ≡ drop (size r₁) b₁
+  pub rest₂ : drop (size r₂) a₂ ≡ drop (size r₂) b₂
+
+-- two reports are alike
+abbrev pub SameReport : List ℕ → List ℕ → Reported → Reported → List ℕ → List ℕ → Type 0
+SameReport = SameText (λ r. reportedSize r .size)
+
+-- two sheets that are written are alike
+abbrev pub SameSheet : List ℕ → List ℕ → Written → Written → List ℕ → List ℕ → Type 0
+SameSheet = SameText (λ r. writtenSize r .size)
+
+-- two tallies answer a further call with one number, and stand for one ledger after it; and their sheets are alike
 pub record AnswersAlike (t u : Tally) : Type 0 where
   pub opens : (l : Lot) (c : Card) (r q : Outcome) → OpenStep t l c r → OpenStep u l c q → answer r ≡ answer q
   pub enters : (k x : ℕ) (r q : Outcome) → EnterStep t k x r → EnterStep u k x q → answer r ≡ answer q
   pub withdraws : (k : ℕ) (r q : Outcome) → WithdrawStep t k r → WithdrawStep u k q → answer r ≡ answer q
   pub joins : {ds es : Calls} {ms os : List ℕ} (o p : Tally) → Run ds ms o → Run es os p → ledger ds ≡ ledger es → (r q : Outcome) → JoinStep t o r → JoinStep u p q → answer r ≡ answer q
+  pub writes : (κ₁ κ₂ : Lft) (b₁ b₂ : RefT (List ℕ)) → length (now b₁) ≡ length (now b₂)
+      → (r₁ r₂ : Written) (a₁ a₂ : RefT (List ℕ)) → WriteStep κ₁ t b₁ r₁ a₁ → WriteStep κ₂ u b₂ r₂ a₂ → SameSheet (now b₁) (now b₂) r₁ r₂ (now a₁) (now a₂)
 
 -- any two lists of calls that end with the same lot, card and held results
 abbrev pub OrderIsFree : Type 0
 OrderIsFree = (cs ds : Calls) (ns ms : List ℕ) (t u : Tally) → Run cs ns t → Run ds ms u → ledger cs ≡ ledger ds → AnswersAlike t u
-
--- Two reports are alike: the same refusal, or the same length and the same text. Every other byte of either buffer stays.
-pub record SameReport (b₁ b₂ : List ℕ) (r₁ r₂ : Reported) (a₁ a₂ : List ℕ) : Type 0 where
-  pub answer : r₁ ≡ r₂
-  pub text : take (reportedAnswer r₁ a₁ .size) a₁ ≡ take (reportedAnswer r₂ a₂ .size) a₂
-  pub rest₁ : drop (reportedAnswer r₁ a₁ .size) a₁ ≡ drop (reportedAnswer r₁ a₁ .size) b₁
-  pub rest₂ : drop (reportedAnswer r₂ a₂ .size) a₂ ≡ drop (reportedAnswer r₂ a₂ .size) b₂

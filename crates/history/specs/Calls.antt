@@ -6,7 +6,7 @@ use lib.Dec.{eqb}
 use Rattle.rules.specs.Choice.{pick}
 use Rattle.rules.specs.declared.Lot.{Lot}
 use Rattle.rules.specs.declared.Card.{Card}
-use Rattle.reading_theorems.specs.Spelling.{Entry}
+use Rattle.reading_theorems.specs.Spelling.{Entry, sheetLot, sheetCard, entriesOf}
 use Rattle.rules.specs.Ledger.{Ledger, Judged, freshLedger, held, openOn, enterOn, withdrawOn, joinOn}
 
 -- a list of calls, the last one outermost; a join has the list of the calls that made the other tally
@@ -70,3 +70,7 @@ counts (joins cs ds) =
 unfoldable pub entersAll : Calls → List Entry → Calls
 entersAll cs [] = cs
 entersAll cs (e ∷ es) = entersAll (enters cs (e .container) (e .x)) es
+
+-- the calls that a sheet says: an open of its lot with its card, and an enter for each of its results
+abbrev pub callsOf : List ℕ → Calls
+callsOf sheet = entersAll (opens start (sheetLot sheet) (sheetCard sheet)) (entriesOf sheet)

@@ -12,7 +12,7 @@ use Rattle.rules.specs.Report.{reportOf}
 use Rattle.rules.specs.Reading.{accepted, refused, readOf}
 use Rattle.rules.specs.Printing.{refusedLine}
 use Rattle.rules.specs.declared.Printed.the-variants.{Length}
-use Rattle.reading_theorems.specs.Spelling.{Spelled, entriesOf}
+use Rattle.reading_theorems.specs.Spelling.{Spelled}
 use Rattle.history.specs.Steps.{JudgeStep}
 use Rattle.history.specs.Verdict.{ReportLines}
 
@@ -22,9 +22,10 @@ pub data Prints (sheet text : List ℕ) : Type 0 where
   faulty : (e line : ℕ) → readOf sheet ≡ refused e line → text ≡ refusedLine e line → Prints sheet text
   -- it has too few results
   few : (g : Ledger) (lines : ℕ) → readOf sheet ≡ accepted g lines → held g < leastReported → text ≡ refusedLine 15 lines → Prints sheet text
-  -- it is judged: the ledger is that of an open and of an enter for each of its results, all of them accepted; the text is the
-  -- report of that ledger, and its H, where it is worked out, is the nearest decimal, with over and kept by the exact fraction
-  judged : (g : Ledger) (lines : ℕ) → readOf sheet ≡ accepted g lines → Spelled (entriesOf sheet) g → leastReported ≤ held g → text ≡ reportOf g → ReportLines g text → Prints sheet text
+  -- it is judged: the ledger is that of an open of its lot with its card and of an enter for each of its results, all of them
+  -- accepted; the text is the report of that ledger, and its H, where it is worked out, is the nearest decimal, with over and kept by
+  -- the exact fraction
+  judged : (g : Ledger) (lines : ℕ) → readOf sheet ≡ accepted g lines → Spelled sheet g → leastReported ≤ held g → text ≡ reportOf g → ReportLines g text → Prints sheet text
 
 pub record EverySheet : Type 0 where
   -- all bytes at all, and any buffer that the text fits

@@ -1,7 +1,6 @@
 pub mod Calls
 pub mod Steps
 pub mod Run
-pub mod Sheets
 pub mod Alike
 pub mod Verdict
 pub mod Whole

@@ -6,6 +6,7 @@ use denote.Ref.{RefT}
 use Rattle.rules.specs.declared.Lot.{Lot}
 use Rattle.rules.specs.declared.Card.{Card}
 use Rattle.rules.specs.declared.Reported.{Reported}
+use Rattle.rules.specs.declared.Written.{Written}
 use Rattle.tally.specs.declared.Tally.{Tally}
 use Rattle.tally.specs.declared.Outcome.{Outcome}
 use Rattle.tally.proofs.«open».Reads as open-reads
@@ -14,6 +15,7 @@ use Rattle.tally.proofs.enter.Reads as enter-reads
 use Rattle.tally.proofs.withdraw.Reads as withdraw-reads
 use Rattle.tally.proofs.join.Reads as join-reads
 use Rattle.report.proofs.report.Reads as report-reads
+use Rattle.writer.proofs.write.Reads as write-reads
 use Rattle.sheet.specs.declared.Reading.{Reading}
 use Rattle.sheet.proofs.read.Reads as read-reads
 use Rattle.judge.proofs.judge.Reads as judge-reads
@@ -37,6 +39,10 @@ JoinStep t o r = join-reads.Learnt tt (t, (o, tt)) r (t, (o, tt))
 -- a report of t into the buffer that has `before`, and `after` as the call returns
 abbrev pub ReportStep : Lft → Tally → RefT (List ℕ) → Reported → RefT (List ℕ) → Type 0
 ReportStep κ t before r after = report-reads.Learnt (κ, tt) (t, (before, tt)) r (t, (after, tt))
+
+-- the sheet of t, written into the buffer that has `before`, and `after` as the call returns
+abbrev pub WriteStep : Lft → Tally → RefT (List ℕ) → Written → RefT (List ℕ) → Type 0
+WriteStep κ t before r after = write-reads.Learnt (κ, tt) (t, (before, tt)) r (t, (after, tt))
 
 -- a sheet that is read
 abbrev pub ReadStep : Lft → RefT (List ℕ) → Reading → Type 0

@@ -54,8 +54,12 @@ pub record WorkedOut (g : Ledger) (line : List ℕ) : Type 0 where
   pub against : (v : ℕ) → criticalFor (g .card) (held g) ≡ At v → Against g value v word
   pub without : criticalFor (g .card) (held g) ≡ Absent → word ≡ text "open"
 
--- The text of a report: five lines, the first with the number held as N, the third with H, which is void beyond the limits of
--- the mean and else worked out.
+-- the mean of what a ledger holds is beyond the limits of its attribute
+abbrev pub MeanIsBeyond : Ledger → Type 0
+MeanIsBeyond g = isVoid (attributeOf (g .lot .attribute)) (held g) (figures g .sum) ≡ true
+
+-- The text of a report: five lines, the first with the number held as N, the third with H. H void stands exactly where the mean is
+-- beyond its limits, with R void and LOT void; otherwise H is worked out.
 pub record ReportLines (g : Ledger) (report : List ℕ) : Type 0 where
   pub count : List ℕ
   pub mean : List ℕ
@@ -64,5 +68,6 @@ pub record ReportLines (g : Ledger) (report : List ℕ) : Type 0 where
   pub lot : List ℕ
   pub five : linesOf report ≡ ended count ∷ ended mean ∷ ended h ∷ ended r ∷ ended lot ∷ []
   pub number : count ≡ text "N " ++ decimal (held g)
-  pub void : h ≡ text "H void" → isVoid (attributeOf (g .lot .attribute)) (held g) (figures g .sum) ≡ true
+  pub void : h ≡ text "H void" → MeanIsBeyond g
+  pub beyond : MeanIsBeyond g → (h ≡ text "H void") × (r ≡ text "R void") × (lot ≡ text "LOT void")
   pub worked : (h ≡ text "H void" → ⊥) → WorkedOut g h

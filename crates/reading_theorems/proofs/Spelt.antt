@@ -17,7 +17,7 @@ use Rattle.rules.specs.declared.Frame.{Frame}
 use Rattle.rules.proofs.ContentLaws.{total-none}
 use Rattle.rules.proofs.LedgerLaws.{enter-held}
 use Rattle.rules.proofs.Taken.{Taken, lot, card, critical, range, result, ends}
-use Rattle.reading_theorems.specs.Spelling.{Entry, Made, opens, enters, entryOf, entriesIn, entriesOf, Spelled}
+use Rattle.reading_theorems.specs.Spelling.{Entry, Made, opens, enters, entryOf, entriesIn, entriesOf, lotBy, cardBy, lotIn, cardIn, Spelled}
 use Rattle.reading_theorems.proofs.StageLaws.{unopened, ended-opened}
 use Rattle.reading_theorems.proofs.Accepted.{Leads, nothing, line, AcceptedFrom, accepted-sheet}
 
@@ -73,14 +73,41 @@ results-led s v es h (line {u} {d} t rest) =
 pub ended-made : (s : State) (es : List Entry) → ResultsSoFar s es → isEnded (s .stage) ≡ true → Made (s .lot) (s .card) es (s .ledger)
 ended-made s es h e = let o = ended-opened (s .stage) e in rw o at (h .made (rw o refl))
 
--- the lot and the card that the lines say, and their results in their order, make what is accepted
+-- the lot and the card of the last state, and the results in their order, make what is accepted
 pub sheet-made : (sheet : List ℕ) (g : Ledger) (m : ℕ) (a : AcceptedFrom (linesOf sheet) atStart 0 g m)
     → Made (a .last .lot) (a .last .card) (entriesOf sheet) g
 sheet-made sheet g m a =
     let v = a .last in
     rw (a .ledger) at (ended-made v (entriesOf sheet) (results-led atStart v [] none-at-start (a .leads)) (a .ends))
 
-pub spelled : (sheet : List ℕ) (g : Ledger) (lines : ℕ) → readOf sheet ≡ accepted g lines → Spelled (entriesOf sheet) g
+-- ---- they are those that the lines say
+lot-taken : {f : Frame} {s u : State} → Taken s f u → u .lot ≡ lotBy f (s .lot)
+lot-taken (lot t g) = refl
+lot-taken (card t g) = refl
+lot-taken (critical t g) = refl
+lot-taken (range t g few) = refl
+lot-taken (result t b e) = refl
+lot-taken (ends t b e) = refl
+
+card-taken : {f : Frame} {s u : State} → Taken s f u → u .card ≡ cardBy f (s .card)
+card-taken (lot t g) = refl
+card-taken (card t g) = refl
+card-taken (critical t g) = refl
+card-taken (range t g few) = refl
+card-taken (result t b e) = refl
+card-taken (ends t b e) = refl
+
+lot-led : {ls : List Line} (s v : State) → Leads s ls v → v .lot ≡ lotIn (s .lot) ls
+unfolding lotIn
+lot-led s v nothing = refl
+lot-led s v (line {u} {d} {ls = ls} t rest) = lot-led u v rest ∙ ap (λ (l : Lot). lotIn l ls) (lot-taken t)
+
+card-led : {ls : List Line} (s v : State) → Leads s ls v → v .card ≡ cardIn (s .card) ls
+unfolding cardIn
+card-led s v nothing = refl
+card-led s v (line {u} {d} {ls = ls} t rest) = card-led u v rest ∙ ap (λ (c : Card). cardIn c ls) (card-taken t)
+
+pub spelled : (sheet : List ℕ) (g : Ledger) (lines : ℕ) → readOf sheet ≡ accepted g lines → Spelled sheet g
 spelled sheet g lines q =
     let a = accepted-sheet sheet g lines q in
-    record { lot = a .last .lot; card = a .last .card; made = sheet-made sheet g lines a }
+    rw (lot-led atStart (a .last) (a .leads), card-led atStart (a .last) (a .leads)) at (sheet-made sheet g lines a)

@@ -1,9 +1,10 @@
--- A sheet that is read says an open and its enters: which they are, and the ledger that they make.
+-- A sheet says an open and its enters: which they are, and the ledger that they make.
 use mathlib.Core.Path.{_≡_}
 use mathlib.Core.List.{List, [], _∷_, _++_}
 use Prim.Native.Nat.{ℕ}
 use Rattle.rules.specs.Lines.{Line, ended, unended, linesOf}
 use Rattle.rules.specs.Frames.{frameOf}
+use Rattle.rules.specs.Cards.{headOf, withHead, withCritical, withRow, freshLot, freshCard}
 use Rattle.rules.specs.Ledger.{Ledger, openOn, enterOn, freshLedger}
 use Rattle.rules.specs.declared.Lot.{Lot}
 use Rattle.rules.specs.declared.Card.{Card}
@@ -39,8 +40,42 @@ entriesIn (ended d ∷ ls) = entryOf (frameOf d) ++ entriesIn ls
 abbrev pub entriesOf : List ℕ → List Entry
 entriesOf sheet = entriesIn (linesOf sheet)
 
--- g is made of a lot, a card and the entries es
-pub record Spelled (es : List Entry) (g : Ledger) : Type 0 where
-  pub lot : Lot
-  pub card : Card
-  pub made : Made lot card es g
+-- its lot: that of its 01 frame
+abbrev pub lotBy : Frame → Lot → Lot
+lotBy frame.Bad l = l
+lotBy (frame.Lot a n) l = record { attribute = a; containers = n }
+lotBy (frame.Card f g n) l = l
+lotBy (frame.Critical k v) l = l
+lotBy (frame.Range lo hi b r) l = l
+lotBy (frame.Result c x) l = l
+lotBy (frame.End n) l = l
+
+-- its card: the head of its 02 frame, and what its 03 and 04 frames add
+abbrev pub cardBy : Frame → Card → Card
+cardBy frame.Bad c = c
+cardBy (frame.Lot a n) c = c
+cardBy (frame.Card f g n) c = withHead c (headOf f g n)
+cardBy (frame.Critical k v) c = withCritical c k v
+cardBy (frame.Range lo hi b r) c = withRow c lo hi b r
+cardBy (frame.Result k x) c = c
+cardBy (frame.End n) c = c
+
+unfoldable pub lotIn : Lot → List Line → Lot
+lotIn l [] = l
+lotIn l (unended ∷ ls) = lotIn l ls
+lotIn l (ended d ∷ ls) = lotIn (lotBy (frameOf d) l) ls
+
+unfoldable pub cardIn : Card → List Line → Card
+cardIn c [] = c
+cardIn c (unended ∷ ls) = cardIn c ls
+cardIn c (ended d ∷ ls) = cardIn (cardBy (frameOf d) c) ls
+
+abbrev pub sheetLot : List ℕ → Lot
+sheetLot sheet = lotIn freshLot (linesOf sheet)
+
+abbrev pub sheetCard : List ℕ → Card
+sheetCard sheet = cardIn freshCard (linesOf sheet)
+
+-- g is made by the open and the enters that the sheet says, each of them accepted
+abbrev pub Spelled : List ℕ → Ledger → Type 0
+Spelled sheet g = Made (sheetLot sheet) (sheetCard sheet) (entriesOf sheet) g

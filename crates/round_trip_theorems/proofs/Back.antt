@@ -23,7 +23,7 @@ use Rattle.rules.proofs.Tests.{and-left, and-right}
 use Rattle.rules.proofs.CardLaws.{open-lot, open-card}
 use Rattle.rules.proofs.Bounds.{good-head}
 use Rattle.rules.proofs.LineLaws.{no-lines}
-use Rattle.round_trip_theorems.specs.Statement.{Yields}
+use Rattle.round_trip_theorems.specs.Statement.{ReadsAs}
 use Rattle.round_trip_theorems.proofs.Spelled.{lot-spells, card-spells}
 use Rattle.round_trip_theorems.proofs.Reached.{Reaches, reach-then, reach-line}
 use Rattle.round_trip_theorems.proofs.Writable.{Writable, open-cut, yields}
@@ -120,5 +120,5 @@ module _ (g : Ledger) (w : Writable g) where
       ∙ (all-reach .same [] 0
       ∙ (rw (no-lines, e .0) (ap (λ (h : Ledger). accepted h (all-reach .lines 0)) (e .1 ∙ ledger-is))))
 
-  pub back : Yields (sheetOf g) g
+  pub back : ReadsAs (sheetOf g) g
   back = yields-it ∙ ap (accepted g) (yields (sheetOf g) g (all-reach .lines 0) yields-it .1)

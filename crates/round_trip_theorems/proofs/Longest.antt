@@ -1,50 +1,24 @@
--- No sheet is longer than 2,629 bytes, and one has that length. Assumes nothing.
+-- The calls that end with the longest sheet. Assumes nothing.
 use mathlib.Core.Path.{_≡_, refl, ap, _∙_}
-use mathlib.Core.Bool.{true}
-use mathlib.Core.List.{List}
-use Prim.Native.Nat.{ℕ, zero, suc, _+_, _≤_}
+use mathlib.Core.List.{List, [], _∷_, _++_}
+use Prim.Native.Nat.{ℕ, zero, suc, _≤_}
 use native.Mathlib.Omega.{arith}
-use native.Mathlib.Decide.{decLe}
-use lib.ListN.{length, getD}
-use borrow.Author.Tests.{eq-eqb}
-use Rattle.rules.specs.Limits.{mostHeld, leastReported, criticals}
+use lib.ListN.{length}
+use Rattle.rules.specs.Limits.{mostHeld, mostRows, criticals}
 use Rattle.rules.specs.Contents.{Contents, free, holds, one, total}
 use Rattle.rules.specs.Cards.{criticalsGood, rowsGood, openNumber}
 use Rattle.rules.specs.Ledger.{Ledger, Judged, judged, opened, withContents, freshLedger}
 use Rattle.rules.specs.Writing.{sheetOf}
-use Rattle.rules.proofs.CardLaws.{open-rows}
+use Rattle.reading_theorems.specs.Lengths.{longest}
+use Rattle.reading_theorems.specs.Spelling.{Entry, Made}
+use Rattle.reading_theorems.specs.Spelling as spelling
+use Rattle.reading_theorems.proofs.Ready.{zero-at}
 use Rattle.writer.specs.Promise.{filled}
-use Rattle.writer.proofs.Lengths.{filled-one, sheet-length}
-use Rattle.round_trip_theorems.specs.Statement.{longest, fullLot, fullCard, filling}
-use Rattle.round_trip_theorems.proofs.Writable.{Writable}
-use Rattle.round_trip_theorems.proofs.CardLines.{critical-at, good-criticals}
+use Rattle.writer.proofs.Lengths.{sheet-length}
+use Rattle.history.specs.Calls.{judge, ledger}
+use Rattle.round_trip_theorems.specs.Statement.{fullLot, fullCard, filling}
+use Rattle.round_trip_theorems.proofs.Writable.{Writable, made-writable}
 use Rattle.round_trip_theorems.proofs.ResultLines.{upto, upto-above, upto-none, upto-size, upto-more, acceptedAs, enter-good}
-
--- no critical value stands below N = 5
-filled-none : (l : List ℕ) (n : ℕ) → n ≤ leastReported → criticalsGood l criticals ≡ true → filled l n ≡ 0
-unfolding filled
-filled-none l zero h e = refl
-filled-none l (suc n) h e =
-    rw (filled-none l n (omega arith) e, eq-eqb (getD l n 0) 0 (critical-at l n e (omega arith) .0 (omega arith))) refl
-
-filled-few : (l : List ℕ) → filled l leastReported ≡ 0 → (n : ℕ) → leastReported ≤ n → filled l n + leastReported ≤ n
-filled-few l z zero h = absurd (omega arith)
-filled-few l z (suc n) h = by (decLe leastReported n) (λ (q : leastReported ≤ n). filled-few l z n q)
-  where
-    by : Dec (leastReported ≤ n) → (leastReported ≤ n → filled l n + leastReported ≤ n) → filled l (suc n) + leastReported ≤ suc n
-    by (yes q) r = omega (arith, r q, filled-one l n)
-    by (no q) r = let e : suc n ≡ leastReported = omega arith in rw e (omega (arith, z))
-
-pub most : (g : Ledger) → Writable g → length (sheetOf g) ≤ longest
-most g w =
-    let l = g .card .critical in
-    omega (
-      arith,
-      sheet-length g,
-      w .placed .small,
-      open-rows (g .lot) (g .card) (w .carded .opens),
-      filled-few l (filled-none l leastReported (omega arith) (good-criticals (g .lot) (g .card) (w .carded))) criticals (omega arith),
-    )
 
 -- ---- the ledger that is filled: every container up to n holds 0
 zeros : Contents
@@ -63,8 +37,8 @@ full-opens : openNumber fullLot fullCard ≡ 0
 unfolding criticalsGood rowsGood
 full-opens = refl
 
-filling-is : (n : ℕ) → n ≤ mostHeld → filling n ≡ acceptedAs (full n)
-unfolding filling zeros
+filling-is : (n : ℕ) → n ≤ mostHeld → judge (filling n) ≡ acceptedAs (full n)
+unfolding filling judge zeros
 filling-is zero h = rw (upto-none zeros refl) (ap (λ (n : ℕ). judged n freshLedger (opened fullLot fullCard)) full-opens)
 filling-is (suc n) h =
     rw (filling-is n (omega arith))
@@ -72,15 +46,31 @@ filling-is (suc n) h =
     (omega (arith, upto-size zeros n mostHeld refl (omega arith), zeros-size n))
     ∙ ap (λ (q : Contents). acceptedAs (withContents (opened fullLot fullCard) q)) (upto-more zeros n (holds 0) refl))
 
-pub calls : (n : ℕ) → n ≤ mostHeld → filling n .number ≡ 0
+pub calls : (n : ℕ) → n ≤ mostHeld → judge (filling n) .number ≡ 0
 calls n h = ap (λ (j : Judged). j .number) (filling-is n h)
 
 full-filled : filled (fullCard .critical) criticals ≡ 56
 unfolding filled
 full-filled = refl
 
-pub reached : length (sheetOf (filling mostHeld .ledger)) ≡ longest
+pub long : length (sheetOf (ledger (filling mostHeld))) ≡ longest
 unfolding zeros
-reached =
+long =
     ap (λ (j : Judged). length (sheetOf (j .ledger))) (filling-is mostHeld (omega arith))
     ∙ omega (arith, sheet-length (full mostHeld), full-filled, upto-size zeros mostHeld mostHeld refl (omega arith), zeros-size mostHeld)
+
+-- ---- what they end with can be written
+entries : ℕ → List Entry
+entries zero = []
+entries (suc n) = entries n ++ (record { container = suc n; x = 0 } ∷ [])
+
+full-made : (n : ℕ) → n ≤ mostHeld → Made fullLot fullCard (entries n) (ledger (filling n))
+unfolding filling judge entries
+full-made zero h = spelling.opens full-opens
+full-made (suc n) h = spelling.enters (suc n) 0 (full-made n (omega arith)) (calls (suc n) h)
+
+pub full-writable : Writable (ledger (filling mostHeld))
+full-writable =
+    made-writable fullLot fullCard (entries mostHeld) _ (omega arith)
+    (record { full = record { critical = refl; lowest = refl; highest = refl; bound = refl; tolerated = refl }; narrow = zero-at mostRows })
+    (full-made mostHeld (omega arith))

@@ -1,52 +1,78 @@
 -- Sheets are read, and written back, so that lot, card and held results return unchanged. Assumes nothing.
-use mathlib.Core.Path.{_≡_, refl, ap, _∙_}
+use mathlib.Core.Path.{_≡_, refl, sym, ap, _∙_}
 use mathlib.Core.List.{List}
-use Prim.Native.Nat.{ℕ, _<_}
+use Prim.Native.Nat.{ℕ, _≤_}
 use native.Mathlib.Omega.{arith}
-use native.Mathlib.Decide.{ℕ-discrete, decLt}
+use native.Mathlib.Decide.{ℕ-discrete}
 use lib.ListN.{length, take}
-use lib.Seq.{take-at}
-use borrow.Author.Tests.{eq-eqb, ne-eqb}
-use Rattle.rules.specs.Numbers.{TextAnswer, wrote}
-use Rattle.rules.specs.Text.{laid, laidIn}
+use borrow.Author.Tests.{eq-eqb, ne-eqb, eqb-false}
+use denote.Ref.{now}
+use Rattle.rules.specs.Numbers.{TextAnswer, wrote, writtenAnswer}
+use Rattle.rules.specs.Lines.{linesOf}
+use Rattle.rules.specs.Ledger.{Ledger, containers}
+use Rattle.rules.specs.Reading.{accepted, readOf}
 use Rattle.rules.specs.Writing.{sheetOf, writeOn}
-use Rattle.rules.specs.declared.Written.the-variants.{Length}
-use Rattle.rules.proofs.TextLaws.{short-is, fits-is}
+use Rattle.rules.specs.declared.Written.{Written}
+use Rattle.rules.specs.declared.Written.the-variants as written
+use Rattle.rules.proofs.TextLaws.{fits-is}
+use Rattle.reading_theorems.specs.Lengths.{longest}
+use Rattle.reading_theorems.proofs.Accepted.{refused-not, same-ledger, same-lines}
+use Rattle.reading_theorems.proofs.SheetLength.{none-longer}
 use Rattle.tally.specs.View.{view}
 use Rattle.tally.specs.Calls.{Sound}
 use Rattle.tally.specs.declared.Tally.{Tally}
-use Rattle.writer.specs.Promise.{Wrote}
-use Rattle.round_trip_theorems.specs.Statement.{Yields, Trip}
+use Rattle.sheet.specs.declared.Answer.{Answer}
+use Rattle.sheet.specs.declared.Answer.the-variants as answer
+use Rattle.sheet.specs.declared.Reading.{Reading}
+use Rattle.sheet.specs.Promise.{outcomeOf}
+use Rattle.history.specs.Calls.{ledger}
+use Rattle.history.proofs.Agreement.{agrees}
+use Rattle.history.proofs.Texts.{laid-text}
+use Rattle.round_trip_theorems.specs.Statement.{ReadsAs, Yields, WrittenAs, Trip}
 use Rattle.round_trip_theorems.proofs.Writable.{sound-writable, yields}
 use Rattle.round_trip_theorems.proofs.Back.{back}
-use Rattle.round_trip_theorems.proofs.Longest.{most, calls, reached}
+use Rattle.round_trip_theorems.proofs.Longest.{calls, long, full-writable}
 
--- what was laid at the front of a buffer stands there
-front : (s d e : List ℕ) (r : ℕ) → wrote r e ≡ laidIn s d → take r e ≡ s
-front s d e r q = go (decLt (length d) (length s))
-  where
-    go : Dec (length d < length s) → take r e ≡ s
-    go (yes h) = absurd (let z : _≡_ {A = ℕ} 0 16 = ap (λ (t : TextAnswer). t .number) (q ∙ short-is s d h) in omega arith)
-    go (no h) =
-        let p : wrote r e ≡ wrote (length s) (laid s d) = q ∙ fits-is s d (omega arith) in
-        let n : r ≡ length s = ap (λ (t : TextAnswer). t .size) p in
-        let b : e ≡ laid s d = ap (λ (t : TextAnswer). t .bytes) p in
-        rw (n, b) (unfold laid in take-at s _ (length s) refl)
+-- ---- the reader's answer to a sheet that the definition accepts
+accepts : (o : Answer) (t : Tally) (g : Ledger) (n : ℕ) → outcomeOf o t ≡ accepted g n → (o ≡ answer.Accepted n) × (view t ≡ g)
+accepts (answer.Accepted m) t g n q = (ap answer.Accepted (same-lines q), same-ledger q)
+accepts (answer.Refused e m) t g n q = refused-not q
 
-written : (t : Tally) (d e : List ℕ) (r : ℕ) → Sound t → Wrote t d e (Length r) → Yields (take r e) (view t)
-written t d e r s w = go (ℕ-discrete (t .lot .containers) 0) (w .right s)
+reads : (sheet : List ℕ) (r : Reading) (g h : Ledger) → ReadsAs sheet g → g ≡ h → outcomeOf (r .answer) (r .tally) ≡ readOf sheet → Yields sheet r h
+reads sheet r g h q e x = let p = accepts (r .answer) (r .tally) g _ (x ∙ q) in record { accepted = p .0; same = p .1 ∙ e }
+
+-- ---- what the writer lays down
+-- by the definition; a lot was opened
+laid-down : (t : Tally) (d e : List ℕ) (r : ℕ) → Sound t → wrote r e ≡ writeOn (view t) d → ReadsAs (take r e) (view t)
+laid-down t d e r s q = go (ℕ-discrete (t .lot .containers) 0)
   where
-    go : Dec (t .lot .containers ≡ 0) → wrote r e ≡ writeOn (view t) d → Yields (take r e) (view t)
-    go (yes z) q = absurd (let n : _≡_ {A = ℕ} 0 3 = ap (λ (u : TextAnswer). u .number) (rw (eq-eqb (t .lot .containers) 0 z) at q) in omega arith)
-    go (no z) q = rw (front (sheetOf (view t)) d e r (rw (ne-eqb (t .lot .containers) 0 z) at q)) (back (view t) (sound-writable t s (omega arith)))
+    go : Dec (t .lot .containers ≡ 0) → ReadsAs (take r e) (view t)
+    go (yes z) = absurd (eqb-false 0 3 refl (ap (λ (u : TextAnswer). u .number) (rw (eq-eqb (t .lot .containers) 0 z) at q)))
+    go (no z) = rw (laid-text (sheetOf (view t)) d r e (rw (ne-eqb (t .lot .containers) 0 z) at q) .0) (back (view t) (sound-writable t s (omega arith)))
+
+-- a buffer with room for the longest sheet is never short
+room-serves : (t : Tally) (d e : List ℕ) (w : Written) → Sound t → 1 ≤ t .lot .containers → longest ≤ length d → writtenAnswer w e ≡ writeOn (view t) d → WrittenAs w
+room-serves t d e w s h room q =
+    let fits = none-longer (sheetOf (view t)) (view t) _ (back (view t) (sound-writable t s h)) in
+    by w (ap (λ (u : TextAnswer). u .number) (rw (ne-eqb (t .lot .containers) 0 (λ z. omega arith)) at q ∙ fits-is (sheetOf (view t)) d (omega arith)))
+  where
+    by : (w : Written) → writtenAnswer w e .number ≡ 0 → WrittenAs w
+    by (written.Length n) z = record { bytes = n; is = refl }
+    by written.BadLot z = absurd (eqb-false 3 0 refl z)
+    by written.BufferShort z = absurd (eqb-false 16 0 refl z)
 
 pub trip : Trip
 trip =
     record {
-      written = written;
-      back = λ t s h. back (view t) (sound-writable t s h);
+      back = λ cs ns t run κ₁ b n a w κ₂ sheet r e x.
+          let i = agrees run in
+          reads (now sheet) r (view t) (ledger cs) (rw e (laid-down t (now b) (now a) n (i .sound) (w .right (i .sound)))) (i .same) (x .right);
+      written = λ cs ns t run h κ b w a room x.
+          let i = agrees run in
+          room-serves t (now b) (now a) w (i .sound) (rw (← i .same) at h) room (x .right (i .sound));
       again = λ sheet g n q. back g (yields sheet g n q .0);
-      most = λ t s h. most (view t) (sound-writable t s h);
+      most = λ κ sheet r n x a. none-longer (now sheet) (view (r .tally)) n (sym (x .right) ∙ ap (λ (o : Answer). outcomeOf o (r .tally)) a);
       calls = calls;
-      reached = reached;
+      long = long;
+      reached = λ κ sheet r e x. reads (now sheet) r _ _ (rw e (back _ full-writable)) refl (x .right);
     }

@@ -113,7 +113,7 @@ sound-writable t s h =
     }
 
 -- ---- what a sheet yields: an open and its enters made it
-made-writable : (l : Lot) (c : Card) (es : List Entry) (g : Ledger) → l .containers ≤ widest → Sized c → Made l c es g → Writable g
+pub made-writable : (l : Lot) (c : Card) (es : List Entry) (g : Ledger) → l .containers ≤ widest → Sized c → Made l c es g → Writable g
 made-writable l c es g few s (opens q) =
     rw (eq-eqb (openNumber l c) 0 q)
     (record {

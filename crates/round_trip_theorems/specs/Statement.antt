@@ -1,30 +1,45 @@
--- Sheets are read, and written back, so that lot, card and held results return unchanged (demand 2); and how long a sheet is.
+-- Sheets are read, and written back, so that lot, card and held results return unchanged (demand 2); and how long a sheet is. Each step
+-- is what the called function's own contract promises.
 use mathlib.Core.Path.{_≡_}
 use mathlib.Core.List.{List, _++_}
 use Prim.Native.Nat.{ℕ, zero, suc, _≤_}
 use lib.ListN.{length, take, replicate}
+use base.Fml.{Lft}
+use denote.Ref.{RefT, now}
 use Rattle.rules.specs.Limits.{mostHeld, leastReported, mostRows, leastFactor}
 use Rattle.rules.specs.Cards.{headOf, cardOf}
-use Rattle.rules.specs.Ledger.{Ledger, Judged, openOn, enterOn, freshLedger}
+use Rattle.rules.specs.Ledger.{Ledger, containers}
 use Rattle.rules.specs.Lines.{linesOf}
 use Rattle.rules.specs.Reading.{accepted, readOf}
 use Rattle.rules.specs.Writing.{sheetOf}
 use Rattle.rules.specs.declared.Lot.{Lot}
 use Rattle.rules.specs.declared.Card.{Card}
+use Rattle.rules.specs.declared.Written.{Written}
 use Rattle.rules.specs.declared.Written.the-variants.{Length}
+use Rattle.reading_theorems.specs.Lengths.{longest}
 use Rattle.tally.specs.View.{view}
-use Rattle.tally.specs.Calls.{Sound}
 use Rattle.tally.specs.declared.Tally.{Tally}
-use Rattle.writer.specs.Promise.{Wrote}
+use Rattle.sheet.specs.declared.Answer.the-variants.{Accepted}
+use Rattle.sheet.specs.declared.Reading.{Reading}
+use Rattle.history.specs.Calls.{Calls, start, opens, enters, judge, ledger}
+use Rattle.history.specs.Run.{Run}
+use Rattle.history.specs.Steps.{WriteStep, ReadStep}
 
--- the sheet is read to its last line, and yields g: its lot, its card and its map
-abbrev pub Yields : List ℕ → Ledger → Type 0
-Yields sheet g = readOf sheet ≡ accepted g (length (linesOf sheet))
+-- by the definition, the sheet is read to its last line as g: its lot, its card and its map
+abbrev pub ReadsAs : List ℕ → Ledger → Type 0
+ReadsAs sheet g = readOf sheet ≡ accepted g (length (linesOf sheet))
+
+-- a reading accepts the sheet, to its last line, and yields g
+pub record Yields (sheet : List ℕ) (r : Reading) (g : Ledger) : Type 0 where
+  pub accepted : r .answer ≡ Accepted (length (linesOf sheet))
+  pub same : view (r .tally) ≡ g
+
+-- what was written has so many bytes
+pub record WrittenAs (w : Written) : Type 0 where
+  pub bytes : ℕ
+  pub is : w ≡ Length bytes
 
 -- ---- the longest sheet
-abbrev pub longest : ℕ
-longest = 2629
-
 -- a lot of 60 containers, and a card with a critical value for each N from 5 to 60 and with 96 rows
 abbrev pub fullLot : Lot
 fullLot = record { attribute = 0; containers = mostHeld }
@@ -41,20 +56,24 @@ fullCard =
     (replicate mostRows 0)
 
 -- an open of them, and after it an enter for each of the containers 1 to n
-unfoldable pub filling : ℕ → Judged
-filling zero = openOn freshLedger fullLot fullCard
-filling (suc n) = enterOn (filling n .ledger) (suc n) 0
+unfoldable pub filling : ℕ → Calls
+filling zero = opens start fullLot fullCard
+filling (suc n) = enters (filling n) (suc n) 0
 
 -- ---- all that is said
 pub record Trip : Type 0 where
-  -- what the writer's call lays into a buffer, for a tally that the calls made, yields the tally's lot, card and held results
-  pub written : (t : Tally) (d e : List ℕ) (r : ℕ) → Sound t → Wrote t d e (Length r) → Yields (take r e) (view t)
-  -- so does the sheet of every tally that the calls made and that was opened, in whatever order its results are stored
-  pub back : (t : Tally) → Sound t → 1 ≤ t .lot .containers → Yields (sheetOf (view t)) (view t)
-  -- and what any sheet yielded is yielded again by the sheet that is written of it
-  pub again : (sheet : List ℕ) (g : Ledger) (lines : ℕ) → readOf sheet ≡ accepted g lines → Yields (sheetOf g) g
-  -- no sheet that is written is longer than 2,629 bytes
-  pub most : (t : Tally) → Sound t → 1 ≤ t .lot .containers → length (sheetOf (view t)) ≤ longest
-  -- and one has that length: each of these calls is accepted, and they end with it
-  pub calls : (n : ℕ) → n ≤ mostHeld → filling n .number ≡ 0
-  pub reached : length (sheetOf (filling mostHeld .ledger)) ≡ longest
+  -- what the writer's call laid down for a tally that a list of calls ends with, one read from a sheet among them: the reader's call
+  -- accepts it, and what it yields is the list's ledger
+  pub back : (cs : Calls) (ns : List ℕ) (t : Tally) → Run cs ns t → (κ₁ : Lft) (b : RefT (List ℕ)) (n : ℕ) (a : RefT (List ℕ)) → WriteStep κ₁ t b (Length n) a
+      → (κ₂ : Lft) (sheet : RefT (List ℕ)) (r : Reading) → now sheet ≡ take n (now a) → ReadStep κ₂ sheet r → Yields (now sheet) r (ledger cs)
+  -- such a tally is written, in whatever order its results are stored, once a lot is opened and where the buffer has room for the
+  -- longest sheet
+  pub written : (cs : Calls) (ns : List ℕ) (t : Tally) → Run cs ns t → 1 ≤ containers (ledger cs) → (κ : Lft) (b : RefT (List ℕ)) (w : Written) (a : RefT (List ℕ)) → longest ≤ length (now b) → WriteStep κ t b w a → WrittenAs w
+  -- by the definitions: what any sheet is read as, the sheet that is written of it is read as again
+  pub again : (sheet : List ℕ) (g : Ledger) (lines : ℕ) → readOf sheet ≡ accepted g lines → ReadsAs (sheetOf g) g
+  -- no sheet that is accepted is longer than 2,629 bytes
+  pub most : (κ : Lft) (sheet : RefT (List ℕ)) (r : Reading) (n : ℕ) → ReadStep κ sheet r → r .answer ≡ Accepted n → length (now sheet) ≤ longest
+  -- and one has that length: each of these calls is accepted, and the sheet of what they end with is accepted
+  pub calls : (n : ℕ) → n ≤ mostHeld → judge (filling n) .number ≡ 0
+  pub long : length (sheetOf (ledger (filling mostHeld))) ≡ longest
+  pub reached : (κ : Lft) (sheet : RefT (List ℕ)) (r : Reading) → now sheet ≡ sheetOf (ledger (filling mostHeld)) → ReadStep κ sheet r → Yields (now sheet) r (ledger (filling mostHeld))
