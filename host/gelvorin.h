@@ -1,9 +1,20 @@
 /* The judging calls of Gelvorin, for a program in C. Link with target/staticlib/libhost.a, which `rt staticlib host` writes.
  *
- * Every call may be made with any values: it ends, and answers a value or a refusal. Each answers one number: the value, which is
- * below GELVORIN_REFUSED, or GELVORIN_REFUSED and the number of the refusal (README.md has their table).
- * A list is passed as a pointer to its first element, never null, and the number of its elements behind it. A list that is only
- * read is left as it was. What a list points to is the caller's: nothing is kept once the call has returned.
+ * Whatever the numbers and whatever the bytes of its lists, a call ends, and answers a value or a refusal; none relies on its caller
+ * having looked first. Each answers one number: the value, which is below GELVORIN_REFUSED, or GELVORIN_REFUSED and the number of the
+ * refusal (README.md has their table).
+ *
+ * A list is passed as a pointer to its first element and the number of its elements behind it. What a pointer points to is the
+ * caller's to get right, since no call can see it:
+ * - a list's pointer is never null, also where the list is empty;
+ * - as many elements stand there as the number behind it says;
+ * - a buffer overlaps no other list of its call, and nothing else reads or writes it while the call runs; nothing writes to a list that
+ *   a call reads while it runs.
+ * A list that is only read is left as it was.
+ *
+ * The calls keep nothing once they have returned, and may be made from several threads at once: the library has no variable outside its
+ * functions and takes no memory, so a call writes to its own stack and to the buffer that it was lent, and to nothing else.
+ *
  * Each call is proved to answer what its definition under crates/ says. */
 #ifndef GELVORIN_H
 #define GELVORIN_H
@@ -38,14 +49,12 @@ uint64_t gelvorin_mixing(const uint32_t *results, size_t count, uint32_t tolerat
 /* Judges a sheet: lays what lotreport prints for it, the five lines of the report or the line REFUSED, at the front of the buffer.
  * Answers the length of the text; the bytes behind it stay as they were. Any bytes are a sheet or have a first fault, which the text
  * names with its line.
- * Refused with 16, buffer short: the buffer is smaller than the text, and stays as it was.
- * The sheet and the buffer must not overlap. */
+ * Refused with 16, buffer short: the buffer is smaller than the text, and stays as it was. */
 uint64_t gelvorin_judge(const uint8_t *sheet, size_t length, uint8_t *buffer, size_t size);
 
 /* Reads a sheet and writes it back: its frames in their order, the results in ascending container order. 2629 bytes are room
  * for every sheet. Answers the length of what was written to the front of the buffer; the bytes behind it stay as they were.
- * Refused with the number of the sheet's first fault (1 to 9, 14), or with 16, buffer short; then the buffer stays as it was.
- * The sheet and the buffer must not overlap. */
+ * Refused with the number of the sheet's first fault (1 to 9, 14), or with 16, buffer short; then the buffer stays as it was. */
 uint64_t gelvorin_rewrite(const uint8_t *sheet, size_t length, uint8_t *buffer, size_t size);
 
 #ifdef __cplusplus

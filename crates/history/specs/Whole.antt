@@ -27,7 +27,8 @@ pub record Ends (cs : Calls) (ns : List ℕ) (t : Tally) : Type 0 where
   pub sound : Sound t
 
 pub record Whole : Type 0 where
-  -- every list, refused calls included, on a fresh tally, or on any tally when an accepted open comes first
+  -- every list, refused calls included: on a fresh tally, on any tally when an accepted open comes first, or on the tally of an
+  -- accepted sheet, which stands for the open and the enters that the sheet says; a tally that is joined is the end of such a list
   pub ends : (cs : Calls) (ns : List ℕ) (t : Tally) → Run cs ns t → Ends cs ns t
   -- any two such lists that end with the same lot, card and held results report alike into any two buffers of one length
   pub alike : (cs ds : Calls) (ns ms : List ℕ) (t u : Tally) → Run cs ns t → Run ds ms u → ledger cs ≡ ledger ds

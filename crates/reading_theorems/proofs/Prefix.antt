@@ -18,7 +18,7 @@ use Rattle.rules.specs.Reading.{State, Next, goes, stops, SheetOutcome, refused
 use Rattle.rules.specs.Printing.{printed, printedFor}
 use Rattle.rules.specs.declared.Frame.the-variants.{Bad}
 use Rattle.rules.proofs.Taken.{taken}
-use Rattle.reading_theorems.specs.Lengths.{bytesThatDecide, PrefixDecides}
+use Rattle.reading_theorems.specs.Lengths.{PrefixDecides}
 use Rattle.reading_theorems.proofs.Fitting.{frame-fits}
 use Rattle.reading_theorems.proofs.Falling.{room, falls, room-start}
 

@@ -1,7 +1,7 @@
 -- The sheet of a writable ledger yields that ledger. Assumes nothing.
 use mathlib.Core.Path.{_≡_, refl, sym, ap, _∙_}
 use mathlib.Core.Bool.{true}
-use mathlib.Core.List.{List, [], append-nil}
+use mathlib.Core.List.{List, [], _++_, append-nil}
 use Prim.Native.Nat.{ℕ, _≤_}
 use native.Mathlib.Omega.{arith}
 use lib.Dec.{leb}
@@ -96,7 +96,7 @@ module _ (g : Ledger) (w : Writable g) where
       (simp good)
       (record { read = record { lot = refl; card = refl; results = refl; unopened = refl; turns = (refl, refl, refl) }; last = omega arith; turn = refl }))
 
-  all-reach : Reaches (sheetOf g) atStart (Ended l read f)
+  pub all-reach : Reaches (sheetOf g) atStart (Ended l read f)
   unfolding sheetOf
   all-reach =
       reach-then (ResultsReadBack l read f (containers g)) _ _ _ atStart
@@ -112,12 +112,17 @@ module _ (g : Ledger) (w : Writable g) where
   ledger-is : ledgerAt l read f (containers g) ≡ g
   ledger-is = λ i. record { lot = l; card = card-is i; contents = upto-all f (containers g) (w .placed .outside) i }
 
+  -- the sheet and whatever stands behind it
+  pub read-on : (rest : List ℕ) → readOf (sheetOf g ++ rest) ≡ readFrom (linesOf rest) (all-reach .last) (all-reach .lines 0)
+  unfolding readOf
+  read-on rest = all-reach .same rest 0
+
   yields-it : readOf (sheetOf g) ≡ accepted g (all-reach .lines 0)
-  unfolding readOf readFrom
+  unfolding readFrom
   yields-it =
       let e = all-reach .holds in
-      ap (λ (x : List ℕ). readFrom (linesOf x) atStart 0) (sym (append-nil (sheetOf g)))
-      ∙ (all-reach .same [] 0
+      ap readOf (sym (append-nil (sheetOf g)))
+      ∙ (read-on []
       ∙ (rw (no-lines, e .0) (ap (λ (h : Ledger). accepted h (all-reach .lines 0)) (e .1 ∙ ledger-is))))
 
   pub back : ReadsAs (sheetOf g) g

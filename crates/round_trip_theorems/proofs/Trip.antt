@@ -32,6 +32,7 @@ use Rattle.round_trip_theorems.specs.Statement.{ReadsAs, Yields, Written
 use Rattle.round_trip_theorems.proofs.Writable.{sound-writable, yields}
 use Rattle.round_trip_theorems.proofs.Back.{back}
 use Rattle.round_trip_theorems.proofs.Longest.{calls, long, full-writable}
+use Rattle.round_trip_theorems.proofs.OnePast.{needed}
 
 -- ---- the reader's answer to a sheet that the definition accepts
 accepts : (o : Answer) (t : Tally) (g : Ledger) (n : ℕ) → outcomeOf o t ≡ accepted g n → (o ≡ answer.Accepted n) × (view t ≡ g)
@@ -75,4 +76,5 @@ trip =
       calls = calls;
       long = long;
       reached = λ κ sheet r e x. reads (now sheet) r _ _ (rw e (back _ full-writable)) refl (x .right);
+      needed = needed;
     }

@@ -2,16 +2,17 @@
 -- is what the called function's own contract promises.
 use mathlib.Core.Path.{_≡_}
 use mathlib.Core.List.{List, _++_}
-use Prim.Native.Nat.{ℕ, zero, suc, _≤_}
+use Prim.Native.Nat.{ℕ, zero, suc, _+_, _≤_}
 use lib.ListN.{length, take, replicate}
 use base.Fml.{Lft}
 use denote.Ref.{RefT, now}
-use Rattle.rules.specs.Limits.{mostHeld, leastReported, mostRows, leastFactor}
+use Rattle.rules.specs.Limits.{mostHeld, leastReported, mostRows, leastFactor, mostDigits}
 use Rattle.rules.specs.Cards.{headOf, cardOf}
 use Rattle.rules.specs.Ledger.{Ledger, containers}
 use Rattle.rules.specs.Lines.{linesOf}
 use Rattle.rules.specs.Reading.{accepted, readOf}
-use Rattle.rules.specs.Writing.{sheetOf}
+use Rattle.rules.specs.Writing.{rangeLine, sheetOf}
+use Rattle.rules.specs.Printing.{printedFor}
 use Rattle.rules.specs.declared.Lot.{Lot}
 use Rattle.rules.specs.declared.Card.{Card}
 use Rattle.rules.specs.declared.Written.{Written}
@@ -60,6 +61,17 @@ unfoldable pub filling : ℕ → Calls
 filling zero = opens start fullLot fullCard
 filling (suc n) = enters (filling n) (suc n) 0
 
+-- one line more, of the most bytes, behind the sheet of what they end with
+abbrev pub lineMore : List ℕ
+lineMore = rangeLine leastReported mostHeld 0 0
+
+abbrev pub onePast : List ℕ
+onePast = sheetOf (ledger (filling mostHeld)) ++ lineMore
+
+-- its bytes but the last do not decide what is printed for it
+abbrev pub Needed : Type 0
+Needed = printedFor (take (longest + mostDigits) onePast) ≡ printedFor onePast → ⊥
+
 -- ---- all that is said
 pub record Trip : Type 0 where
   -- what the writer's call laid down for a tally that a list of calls ends with, one read from a sheet among them: the reader's call
@@ -77,3 +89,5 @@ pub record Trip : Type 0 where
   pub calls : (n : ℕ) → n ≤ mostHeld → judge (filling n) .number ≡ 0
   pub long : length (sheetOf (ledger (filling mostHeld))) ≡ longest
   pub reached : (κ : Lft) (sheet : RefT (List ℕ)) (r : Reading) → now sheet ≡ sheetOf (ledger (filling mostHeld)) → ReadStep κ sheet r → Yields (now sheet) r (ledger (filling mostHeld))
+  -- one byte fewer than the longest sheet and one line more have (reading_theorems: bytesThatDecide) does not decide what is printed
+  pub needed : Needed
