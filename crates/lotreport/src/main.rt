@@ -1,27 +1,34 @@
 // lotreport: reads a sheet from standard input and prints the report of its lot, or the line of its first fault.
+ghost use mathlib.Core.List.{List};
+ghost use Prim.Native.Nat.{ℕ};
 ghost use Rattle.rules.specs.Printing.{printedFor};
 ghost use Rattle.io.specs.Counts.{Counts};
 ghost use Rattle.decimal.specs.Laying.{Laid};
+ghost use Rattle.lotreport.specs.Input.{BeginsWith};
 use libc::STDIN_FILENO;
 use libc::STDOUT_FILENO;
+
+// Places for the sheet: what is printed for an input is decided by fewer bytes.
+const SHEET: usize = 4096;
 
 // Places for the text: none that is printed is longer.
 const TEXT: usize = 256;
 
-// The text to a sheet, and its length.
-fn answer(sheet: &[u8], text: &mut [u8; TEXT]) -> usize
-    ensures { λ r. ⌜ Laid (printedFor (now (sheet .entry))) (now (text .entry)) (now (text .exit)) r ⌝ }
+// The text to every input whose first bytes were read, and its length.
+fn answer(sheet: &[u8; SHEET], read: usize, text: &mut [u8; TEXT]) -> usize
+    ensures { λ r. ⌜ ((input : List ℕ) → BeginsWith input (now (sheet .entry)) read → Laid (printedFor input) (now (text .entry)) (now (text .exit)) r) ⌝ }
     ensures { λ r. ⌜ Counts r (now (text .exit)) ⌝ }
 {
-    let printed = judge::judge(sheet, text);
+    let all: &[u8] = sheet;
+    let n = checks::least(read, SHEET);
+    let printed = judge::judge(&all[..n], text);
     answers::printed_size(printed).size
 }
 
-// The first 4,096 bytes of a sheet decide what is printed: a law of crate reading_theorems.
 fn main() {
-    let mut sheet = io::buffer();
+    let mut sheet = [0u8; SHEET];
     let mut text = [0u8; TEXT];
-    let n = io::read_full(STDIN_FILENO, &mut sheet);
-    let size = answer(&sheet[..n], &mut text);
+    let read = io::read_full(STDIN_FILENO, &mut sheet);
+    let size = answer(&sheet, read, &mut text);
     io::write_all(STDOUT_FILENO, &text[..size]);
 }
