@@ -19,10 +19,14 @@ pub record KeptOf (words : List (List ℕ)) (l : Listed) : Type 0 where
   pub plain : l .plain ≡ allNumbers words
   pub numbers : allNumbers words ≡ true → take (l .count) (l .values) ≡ take mostKept (map wordValue words)
 
+-- m keeps this word behind those that l keeps
+abbrev pub Adds : List ℕ → Listed → Listed → Type 0
+Adds word l m = (words : List (List ℕ)) → KeptOf words l → KeptOf (words ++ (word ∷ [])) m
+
 -- m keeps one word more than l, whichever it was
 pub record OneMore (l m : Listed) : Type 0 where
   pub word : List ℕ
-  pub right : (words : List (List ℕ)) → KeptOf words l → KeptOf (words ++ (word ∷ [])) m
+  pub right : Adds word l m
 
 -- l is what is kept of so many words, whichever they were
 pub record ReadOf (many : ℕ) (l : Listed) : Type 0 where

@@ -1,14 +1,17 @@
 // lotmixing TOLERATED X X ..: prints `mixable` or `not mixable`, for component lots with the results X and a tolerated R.
 ghost use mathlib.Core.Path.{_≡_};
-ghost use mathlib.Core.List.{List, [], _∷_, _++_};
+ghost use mathlib.Core.List.{List, []};
 ghost use Prim.Native.Nat.{ℕ, _-_};
+ghost use lib.ListN.{take};
 ghost use Rattle.io.specs.Counts.{Counts};
 ghost use Rattle.decimal.specs.Laying.{Laid};
+ghost use Rattle.program_words.specs.Given.{GivenAs};
 ghost use Rattle.program_lines.specs.Printing.{saidToMixing, mixingPrints};
-ghost use Rattle.lotmixing.specs.Listing.{KeptOf, OneMore, ReadOf};
+ghost use Rattle.lotmixing.specs.Listing.{KeptOf, Adds, OneMore, ReadOf};
 use decimal_words::Word;
 use program_lines::LINE;
 use program_words::Said;
+use program_words::WORD;
 use rules::MOST_MIXED;
 
 // Numbers that are kept: the tolerated R, and one result more than may be mixed.
@@ -32,13 +35,14 @@ fn empty() -> Listed
     }
 }
 
-// One word more.
-fn with_word(listed: Listed, word: &[u8]) -> Listed
-    ensures { λ r. ⌜ ((words : List (List ℕ)) → KeptOf words listed → KeptOf (words ++ (now (word .entry) ∷ [])) r) ⌝ }
+// One word more, which stands in the first `n` bytes of a buffer.
+fn with_word(listed: Listed, buffer: &[u8; WORD], n: usize) -> Listed
+    ensures { λ r. ⌜ Adds (take n (now (buffer .entry))) listed r ⌝ }
+    ensures { λ r. ⌜ ((word : List ℕ) → GivenAs word (now (buffer .entry)) n → Adds word listed r) ⌝ }
 {
     let count = listed.count;
     let mut values = listed.values;
-    let number = decimal_words::number(word);
+    let number = decimal_words::number(program_words::word(buffer, n));
     let Word::Number(x) = number else {
         return Listed {
             plain: false,
@@ -95,9 +99,9 @@ fn answer(listed: Listed, line: &mut [u8; LINE]) -> usize
 fn with_argument(listed: Listed, i: usize) -> Listed
     ensures { λ r. ⌜ OneMore listed r ⌝ }
 {
-    let mut word = program_words::word_buffer();
-    let n = os::arg(i, &mut word);
-    with_word(listed, &word[..n])
+    let mut buffer = program_words::word_buffer();
+    let n = os::arg(i, &mut buffer);
+    with_word(listed, &buffer, n)
 }
 
 // All arguments, of which there are `arguments` with the program's own name.

@@ -8,13 +8,13 @@ ghost use Rattle.lotreport.specs.Input.{BeginsWith};
 use libc::STDIN_FILENO;
 use libc::STDOUT_FILENO;
 
-// Places for the sheet: what is printed for an input is decided by fewer bytes.
+// Places for the sheet: what an input has behind them makes no difference to what is printed.
 const SHEET: usize = 4096;
 
 // Places for the text: none that is printed is longer.
 const TEXT: usize = 256;
 
-// The text to every input whose first bytes were read, and its length.
+// The text to every input that begins with the first `read` bytes of the sheet, and its length.
 fn answer(sheet: &[u8; SHEET], read: usize, text: &mut [u8; TEXT]) -> usize
     ensures { λ r. ⌜ ((input : List ℕ) → BeginsWith input (now (sheet .entry)) read → Laid (printedFor input) (now (text .entry)) (now (text .exit)) r) ⌝ }
     ensures { λ r. ⌜ Counts r (now (text .exit)) ⌝ }

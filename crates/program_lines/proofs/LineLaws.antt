@@ -52,9 +52,10 @@ line-whole t d e r h l =
     let size : length e ≡ length t + length (drop (length t) d) = ap length (x .text) ∙ length-append t (drop (length t) d) in
     (record { count = omega (arith, x .count); text = x .text }, counts r e (omega (arith, x .count)))
 
-pub line-answers : (usage : List ℕ) (worded : ℕ → List ℕ) → length usage < linePlaces → ((v : ℕ) → length (worded v) < linePlaces)
-    → {said right : Said} {d e : List ℕ} {r : ℕ} → linePlaces ≡ length d → said ≡ right → LaysAt (lineOf usage worded said) 0 d e r
-    → (Laid (lineOf usage worded right) d e r) × (Counts r e)
-line-answers usage worded h w {right = right} {d} {e} {r} n q l =
-    line-whole (lineOf usage worded right) d e r (omega (arith, line-most usage worded h w right))
-    (subst (λ (s : Said). LaysAt (lineOf usage worded s) 0 d e r) q l)
+-- the same of whatever is shown to be what is said
+pub line-answers : (usage : List ℕ) (worded : ℕ → List ℕ) (said : Said) {d e : List ℕ} {r : ℕ} → LaysAt (lineOf usage worded said) 0 d e r
+    → linePlaces ≡ length d → length usage < linePlaces → ((v : ℕ) → length (worded v) < linePlaces)
+    → ((right : Said) → said ≡ right → Laid (lineOf usage worded right) d e r) × (Counts r e)
+line-answers usage worded said {d} {e} {r} l n h w =
+    let whole = line-whole (lineOf usage worded said) d e r (omega (arith, line-most usage worded h w said)) l in
+    (λ right q. subst (λ (s : Said). Laid (lineOf usage worded s) d e r) q (whole .0), whole .1)

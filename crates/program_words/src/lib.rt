@@ -1,8 +1,11 @@
 // What lotsampling, lottolerance and lotmixing are given, and what they say to it: the words as numbers, and a call's answer. What is
-// right is said in specs/Saying.antt.
+// right is said in specs/Saying.antt, and what a word is given as in specs/Given.antt.
 ghost use mathlib.Core.Path.{_≡_};
-ghost use lib.ListN.{length};
+ghost use mathlib.Core.List.{List};
+ghost use Prim.Native.Nat.{ℕ};
+ghost use lib.ListN.{take, replicate};
 ghost use Rattle.decimal_words.specs.Words.{wordOf};
+ghost use Rattle.program_words.specs.Given.{wordPlaces, GivenAs};
 ghost use Rattle.program_words.specs.Saying.{saidOf, twoNumbers};
 use decimal_words::Word;
 use rules::Answered;
@@ -21,10 +24,23 @@ pub enum TwoNumbers {
 }
 
 // Places for a word: the longest that Linux hands to a program, and the byte that ends it.
-pub fn word_buffer() -> [u8; 131072]
-    ensures { λ r. ⌜ 131072 ≡ length r ⌝ }
+pub const WORD: usize = 131072;
+
+// A buffer for a word. A call, since the check computes with every place of an array that is written out.
+pub fn word_buffer() -> [u8; WORD]
+    ensures { λ r. ⌜ r ≡ replicate wordPlaces 0 ⌝ }
 {
-    [0u8; 131072]
+    [0u8; WORD]
+}
+
+// The word that stands in the first `n` bytes of a buffer. There are places for every word, so it is the one that was given.
+pub fn word(buffer: &[u8; WORD], n: usize) -> &[u8]
+    ensures { λ r. ⌜ now r ≡ take n (now (buffer .entry)) ⌝ }
+    ensures { λ r. ⌜ ((given : List ℕ) → GivenAs given (now (buffer .entry)) n → now r ≡ given) ⌝ }
+{
+    let all: &[u8] = buffer;
+    let end = checks::least(n, WORD);
+    &all[..end]
 }
 
 // What is said to a call's answer.

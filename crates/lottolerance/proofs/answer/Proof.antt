@@ -11,10 +11,21 @@ returns : tie.Need-returns
 unfolding tolerancePrints
 returns c =
     let said = c .before .before .before .before .before in
-    line-answers _ _ (omega arith) (yes-or-no-most (text "within") (text "out") (omega arith) (omega arith)) (search needs)
-    (rw (said .before .two-numbers .ensures) at (said .said-to .ensures)) (c .verdict-line .ensures)
+    let third = said .before .before in
+    let line = line-answers _ _ (said .said-to .result) (c .verdict-line .ensures) (search needs) (omega arith)
+    (yes-or-no-most (text "within") (text "out") (omega arith) (omega arith)) in (
+      λ u v w f g h. line .0 _
+          (rw (
+            third .before .before .word .ensures .1 u f,
+            said .before .two-numbers .ensures,
+            third .before .word2 .ensures .1 v g,
+            third .word3 .ensures .1 w h,
+          ) at (said .said-to .ensures)),
+      line .1,
+    )
 
 pub answer-spec : {M : Type 1} → statement M
 answer-spec =
     tie.close
-    (tie.spec (λ c κs. search needs) (λ c κs. search needs) (λ c. search needs) (λ c. search needs) (λ c. search needs) (λ c κs. search needs) returns)
+    (tie.spec (λ c κs. search needs) (λ c κs. search needs) (λ c κs. search needs) (λ c κs. search needs) (λ c κs. search needs) (λ c. search needs)
+    (λ c. search needs) (λ c. search needs) (λ c κs. search needs) returns)
