@@ -21,7 +21,7 @@ use Rattle.tally.specs.View.{tallyOf, view}
 use Rattle.tally.specs.Calls.{Sound, Enters, heldAfter}
 use Rattle.tally.specs.declared.Tally.{Tally}
 use Rattle.result_steps.specs.declared.Results.{Results}
-use Rattle.result_steps.specs.Promise.{openedState, Proper, ResultTaken, ResultRefused}
+use Rattle.result_steps.specs.Promise.{openedState, resultsAt, refused, lineOn, Proper, ResultTaken, ResultRefused}
 use Rattle.rules.proofs.Tests.{false-true}
 use Rattle.rules.proofs.EveryStage.{at-every-stage}
 
@@ -30,9 +30,14 @@ shut : (kind : ℕ) → eqb kind 5 || eqb kind 6 ≡ false → (s : Stage) → i
 shut kind e = at-every-stage (λ s. isOpened s ≡ true → mayStand kind s ≡ false) false-true false-true false-true false-true false-true (λ o. e) (λ o. refl)
 
 pub too-late : (kind : ℕ) → eqb kind 5 || eqb kind 6 ≡ false → (f : Frame) → ((s : State) → mayStand kind (s .stage) ≡ false → stepOf f s ≡ stops 2)
-    → (l : Lot) (p : Results) (ks vs : List ℕ) → ResultRefused f l p ks vs 2 ks vs
-too-late kind e f step l p ks vs =
-    record { right = λ c last o. step (openedState l c last p ks vs) (shut kind e (p .stage) (o .opened)); containers = refl; results = refl }
+    → (l : Lot) (p : Results) (ks vs : List ℕ) → lineOn f l p ks vs ≡ refused 2 → ResultRefused f l p ks vs 2 ks vs
+too-late kind e f step l p ks vs q =
+    record {
+      exact = q;
+      right = λ c last o. step (openedState l c last p ks vs) (shut kind e (p .stage) (o .opened));
+      containers = refl;
+      results = refl;
+    }
 
 -- ---- a result
 module _ {l : Lot} {p : Results} {ks vs : List ℕ} {k x : ℕ} {e : Refusal} {ks′ vs′ : List ℕ} (a : Enters l ks vs (p .held) k x e ks′ vs′) (turn : mayStand 5 (p .stage) ≡ true) where
@@ -48,15 +53,17 @@ module _ {l : Lot} {p : Results} {ks vs : List ℕ} {k x : ℕ} {e : Refusal} {k
   enter-refused z =
       let same = a .answers freshCard .kept z in
       record {
+        exact = simp (turn, ← a .number, ne-eqb (numberOf e) 0 z);
         right = λ c last o. entered c last o ∙ simp (ne-eqb (numberOf e) 0 z);
         containers = ap (λ (t : Tally). t .containers) same;
         results = ap (λ (t : Tally). t .results) same;
       }
 
-  pub enter-taken : numberOf e ≡ 0 → ResultTaken (frame.Result k x) l p ks vs (record { stage = stage.Result; held = p .held + 1 }) ks′ vs′
+  pub enter-taken : numberOf e ≡ 0 → ResultTaken (frame.Result k x) l p ks vs (resultsAt stage.Result (p .held + 1)) ks′ vs′
   enter-taken z =
       let more : heldAfter e (p .held) ≡ p .held + 1 = simp z in
       record {
+        exact = simp (turn, ← a .number, z, a .keys, a .values);
         result = refl;
         right = λ c last o. entered c last o ∙ simp z;
         proper = λ c o. record { opened = refl; sound = subst (λ (n : ℕ). Sound (tallyOf l c ks′ vs′ n)) more (a .answers c .sound (o .sound)) };

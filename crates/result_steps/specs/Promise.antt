@@ -2,16 +2,21 @@
 use mathlib.Core.Path.{_≡_}
 use mathlib.Core.Bool.{true}
 use mathlib.Core.List.{List}
-use Prim.Native.Nat.{ℕ}
+use Prim.Native.Nat.{ℕ, _+_}
+use lib.Dec.{eqb}
+use lib.ListN.{set}
+use Rattle.rules.specs.Choice.{unless}
 use Rattle.rules.specs.Numbers.{numberOf}
-use Rattle.rules.specs.Stages.{isOpened}
+use Rattle.rules.specs.Stages.{mayStand, isOpened}
 use Rattle.rules.specs.Reading.{State, goes, stops, stepOf}
 use Rattle.rules.specs.declared.Lot.{Lot}
 use Rattle.rules.specs.declared.Card.{Card}
+use Rattle.rules.specs.declared.Stage.{Stage}
 use Rattle.rules.specs.declared.Stage.the-variants as stage
 use Rattle.rules.specs.declared.Frame.{Frame}
+use Rattle.rules.specs.declared.Frame.the-variants as frame
 use Rattle.tally.specs.View.{tallyOf, view}
-use Rattle.tally.specs.Calls.{Sound}
+use Rattle.tally.specs.Calls.{Sound, enterInNumber}
 use Rattle.head_steps.specs.Promise.{isResult}
 use Rattle.result_steps.specs.declared.Results.{Results}
 use Rattle.result_steps.specs.declared.ResultLine.{ResultLine}
@@ -22,9 +27,44 @@ abbrev pub openedState : Lot → Card → ℕ → Results → List ℕ → List 
 openedState l c last p ks vs =
     record { stage = p .stage; lot = l; card = c; last = last; results = p .held; ledger = view (tallyOf l c ks vs (p .held)) }
 
+abbrev pub resultsAt : Stage → ℕ → Results
+resultsAt s n = record { stage = s; held = n }
+
 -- where the results begin: nothing is held
 abbrev pub atResults : Results
-atResults = record { stage = stage.Result; held = 0 }
+atResults = resultsAt stage.Result 0
+
+-- ---- what a line comes to, on any lists
+-- it is taken, with the lists after it, or refused with a number, and the lists stay
+pub data Came : Type 0 where
+  taken : Results → List ℕ → List ℕ → Came
+  refused : ℕ → Came
+
+-- 05: an enter on the lists
+abbrev pub resultOn : Lot → Results → List ℕ → List ℕ → ℕ → ℕ → Came
+resultOn l p ks vs k x =
+    unless (mayStand 5 (p .stage)) (refused 2)
+    (unless (eqb (enterInNumber l ks vs (p .held) k x) 0) (refused (enterInNumber l ks vs (p .held) k x))
+    (taken (resultsAt stage.Result (p .held + 1)) (set ks (p .held) k) (set vs (p .held) x)))
+
+-- 06: the number of results
+abbrev pub endOn : Results → List ℕ → List ℕ → ℕ → Came
+endOn p ks vs n =
+    unless (mayStand 6 (p .stage)) (refused 2)
+    (unless (eqb n (p .held)) (refused 14)
+    (taken (resultsAt stage.End (p .held)) ks vs))
+
+-- a line with this frame: no frame of lot or card may stand
+abbrev pub lineOn : Frame → Lot → Results → List ℕ → List ℕ → Came
+lineOn frame.Bad l p ks vs = refused 1
+lineOn (frame.Lot a n) l p ks vs = refused 2
+lineOn (frame.Card f g n) l p ks vs = refused 2
+lineOn (frame.Critical k v) l p ks vs = refused 2
+lineOn (frame.Range lo hi b r) l p ks vs = refused 2
+lineOn (frame.Result k x) l p ks vs = resultOn l p ks vs k x
+lineOn (frame.End n) l p ks vs = endOn p ks vs n
+
+-- ---- the promise: that on any lists, and the step of the reading on those that the reader makes
 
 -- as the reader makes them
 pub record Proper (l : Lot) (c : Card) (p : Results) (ks vs : List ℕ) : Type 0 where
@@ -33,12 +73,14 @@ pub record Proper (l : Lot) (c : Card) (p : Results) (ks vs : List ℕ) : Type 0
 
 -- a line with the frame f is taken: a result or the end, whatever the card
 pub record ResultTaken (f : Frame) (l : Lot) (p : Results) (ks vs : List ℕ) (q : Results) (ks′ vs′ : List ℕ) : Type 0 where
+  pub exact : lineOn f l p ks vs ≡ taken q ks′ vs′
   pub result : isResult f ≡ true
   pub right : (c : Card) (last : ℕ) → Proper l c p ks vs → stepOf f (openedState l c last p ks vs) ≡ goes (openedState l c last q ks′ vs′)
   pub proper : (c : Card) → Proper l c p ks vs → Proper l c q ks′ vs′
 
 -- it is refused with the number n, and the lists stay, on any lists
 pub record ResultRefused (f : Frame) (l : Lot) (p : Results) (ks vs : List ℕ) (n : ℕ) (ks′ vs′ : List ℕ) : Type 0 where
+  pub exact : lineOn f l p ks vs ≡ refused n
   pub right : (c : Card) (last : ℕ) → Proper l c p ks vs → stepOf f (openedState l c last p ks vs) ≡ stops n
   pub containers : ks′ ≡ ks
   pub results : vs′ ≡ vs
