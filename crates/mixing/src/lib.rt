@@ -37,19 +37,19 @@ pub fn mixable(results: &[u32], tolerated: u32) -> Mixing
     ensures { λ r. ⌜ mixingAnswer r ≡ mixingOf (now (results .entry)) tolerated ⌝ }
 {
     let components = results.len();
-    if components < FEWEST_MIXED {
-        return Mixing::OutsideTable;
-    }
     if MOST_MIXED < components {
         return Mixing::OutsideTable;
     }
     let found = extremes_of(results);
     let largest = found.largest;
     let smallest = found.smallest;
-    if HIGHEST < largest {
-        return Mixing::ResultTooHigh;
-    }
-    if largest - smallest <= tolerated {
+    let few = components < FEWEST_MIXED;
+    let high = HIGHEST < largest;
+    if few {
+        Mixing::OutsideTable
+    } else if high {
+        Mixing::ResultTooHigh
+    } else if largest - smallest <= tolerated {
         Mixing::Mixable
     } else {
         Mixing::NotMixable

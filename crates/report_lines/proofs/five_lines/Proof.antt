@@ -1,8 +1,9 @@
 -- `report_lines::five_lines` meets its contract. Assumes nothing.
-use mathlib.Core.Path.{refl, sym}
+use mathlib.Core.Path.{sym, ap₂, _∙_}
 use native.Mathlib.Omega.{arith}
 use lib.ListN.{length}
 use Prim.Native.Nat.{_≤_}
+use Rattle.rules.specs.Numbers.{wrote}
 use Rattle.rules.specs.Report.{findingsText}
 use Rattle.rules.proofs.TextLaws.{short-is, fits-is}
 use borrow.Author.Needs.{needs}
@@ -18,7 +19,7 @@ returns-2 c =
     let a = size .before .before .args in
     let h : length (findingsText (a .s)) ≤ length (a .buf .now) = omega (arith, size .size .ensures, c .before .before .before .before .if1 .left) in
     let w = c .before .before .lines .ensures .fits h in
-    rw (fits-is _ _ h, w .count, w .text) refl
+    ap₂ wrote (w .count) (w .text) ∙ sym (fits-is _ _ h)
 
 pub five-lines-spec : {M : Type 1} → statement M
 five-lines-spec = tie.close (tie.spec (λ c κs. search needs) returns (λ c κs. search needs) (λ c. search needs) returns-2)
