@@ -6,11 +6,13 @@ use native.Mathlib.Omega.{arith}
 use lib.Dec.{eqb, leb, ltb}
 use borrow.Author.Tests.{leb-true, lt-ltb, not-true, not-false}
 use Rattle.rules.specs.Choice.{pick, unless}
+use Rattle.rules.specs.Numbers.{numberOf}
 use Rattle.rules.specs.Limits.{mostHeld, leastReported, criticals, mostRows}
 use Rattle.rules.specs.Cards.{criticalFollows, rowGood, withRow, openNumber}
 use Rattle.rules.specs.Ledger.{Ledger, opened, enterOn, freshLedger}
 use Rattle.rules.specs.Stages.{mayStand, isOpened}
 use Rattle.rules.specs.Reading.{State, Next, goes, stops, onCard, onLedger, andThen, rangeStep, resultStep, endStep, stepOf}
+use Rattle.rules.specs.declared.Refusal.{Refusal}
 use Rattle.rules.specs.declared.Stage.{Stage}
 use Rattle.rules.specs.declared.Stage.the-variants as stage
 use Rattle.rules.specs.declared.Frame.{Frame}
@@ -18,7 +20,13 @@ use Rattle.rules.specs.declared.Frame.the-variants as frame
 use Rattle.rules.proofs.Tests.{false-true, and-left, and-right}
 use Rattle.rules.proofs.EveryStage.{at-every-stage}
 use Rattle.head_steps.specs.declared.Progress.{Progress}
-use Rattle.head_steps.specs.Promise.{Lists, cardRead, stateOf, isResult, beginsResults, HeadRefused, justOpened}
+use Rattle.head_steps.specs.declared.HeadLine.the-variants as head-line
+use Rattle.head_steps.specs.Promise.{Lists, cardRead, stateOf, isResult, beginsResults, HeadRefused, HeadLineIs, justOpened}
+
+-- a line that is refused, with the answer told
+pub refused-with : (e : Refusal) {f : Frame} {p : Progress} {l : Lists} → stepOf f (stateOf p l) ≡ stops (numberOf e) → beginsResults f p ≡ false
+    → HeadLineIs f p l (head-line.Refused e) l
+refused-with e right begins = record { right = right; kept = refl; beginsNot = begins }
 
 -- a result and the end may stand at the same places
 end-stands : (s : Stage) → mayStand 6 s ≡ mayStand 5 s

@@ -4,6 +4,8 @@ use borrow.Author.Needs.{needs}
 use borrow.Author.Tests.{le-ltb, lt-ltb}
 use Rattle.rules.specs.Reading.{rangeStep}
 use Rattle.rules.proofs.Tests.{not-passed, passed, refused-here, goes-past}
+use Rattle.rules.specs.declared.Refusal.the-variants.{CardFull}
+use Rattle.head_steps.proofs.HeadLaws.{refused-with}
 use Rattle.head_steps.proofs.range_step.Statement.{statement}
 use Rattle.head_steps.proofs.range_step.Tie as tie
 
@@ -25,7 +27,7 @@ returns-3 c l =
     let turn = row .before .before in
     let may = passed (turn .before .takes .ensures) (turn .if1 .left) in
     let good = passed (row .before .row-good .ensures) (row .if2 .left) in
-    record { right = goes-past _ may ∙ (goes-past _ good ∙ refused-here _ (le-ltb _ _ (c .if3 .taken))); kept = refl; beginsNot = refl }
+    refused-with CardFull {p = turn .before .before .before .before .args .p} (goes-past _ may ∙ (goes-past _ good ∙ refused-here _ (le-ltb _ _ (c .if3 .taken)))) refl
 
 returns-4 : tie.Need-returns-4
 unfolding rangeStep

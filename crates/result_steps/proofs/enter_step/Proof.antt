@@ -18,13 +18,13 @@ returns-2 : tie.Need-returns-2
 returns-2 c =
     let enter = c .before .before in
     let turn = enter .before .before .before in
-    enter-refused (enter .enter-in .ensures) (passed (turn .before .takes .ensures) (turn .if1 .left)) (λ z. c .if2 .taken (c .before .number .ensures ∙ z))
+    enter-refused {p = turn .before .before .args .p} (enter .enter-in .ensures) (passed (turn .before .takes .ensures) (turn .if1 .left)) (λ z. c .if2 .taken (c .before .number .ensures ∙ z))
 
 returns-3 : tie.Need-returns-3
 returns-3 c =
     let enter = c .before .before in
     let turn = enter .before .before .before in
-    enter-taken (enter .enter-in .ensures) (passed (turn .before .takes .ensures) (turn .if1 .left)) (sym (c .before .number .ensures) ∙ c .if2 .left)
+    enter-taken {p = turn .before .before .args .p} (enter .enter-in .ensures) (passed (turn .before .takes .ensures) (turn .if1 .left)) (sym (c .before .number .ensures) ∙ c .if2 .left)
 
 pub enter-step-spec : {M : Type 1} → statement M
 enter-step-spec =
