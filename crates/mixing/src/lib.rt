@@ -32,7 +32,8 @@ fn extremes_of(results: &[u32]) -> Extremes
     Extremes { largest, smallest }
 }
 
-// Whether the components with these results may be mixed: exactly when their range is at most the tolerated one.
+// Whether the components with these results may be mixed: exactly when their range is at most the tolerated one. A list that is too
+// long is not looked through.
 pub fn mixable(results: &[u32], tolerated: u32) -> Mixing
     ensures { λ r. ⌜ mixingAnswer r ≡ mixingOf (now (results .entry)) tolerated ⌝ }
 {
