@@ -1,22 +1,19 @@
 -- No text that is printed for a sheet is longer than 256 bytes, so a buffer of that length is never short. Assumes nothing.
-use mathlib.Core.Path.{_≡_, refl, ap, _∙_}
 use mathlib.Core.Bool.{Bool, true, false}
 use mathlib.Core.List.{List}
 use Prim.Native.Nat.{ℕ, _+_, _≤_}
 use native.Mathlib.Omega.{arith}
 use lib.Dec.{leb, ltb}
 use lib.ListN.{length, length-append}
-use borrow.Author.Tests.{eqb-false, ltb-false}
 use Rattle.rules.specs.Choice.{pick}
 use Rattle.rules.specs.Limits.{leastReported}
-use Rattle.rules.specs.Numbers.{TextAnswer, wrote, refusesText, printedAnswer}
-use Rattle.rules.specs.Text.{text, laid, laidIn}
+use Rattle.rules.specs.Text.{text}
 use Rattle.rules.specs.Attributes.{attributeOf, isVoid, placesOfX, placesOfMean, meanPlaces}
 use Rattle.rules.specs.Figures.{figures, verdictH, verdictR, together}
 use Rattle.rules.specs.Ledger.{held}
 use Rattle.rules.specs.Report.{valueH, valueR, noValue, foundWith, findingsOf, countLine, meanLine, verdictWord, limitText, valueLine, lotWord, lotVerdictLine, findingsText, reportOf}
 use Rattle.rules.specs.Reading.{SheetOutcome, accepted, refused, readOf}
-use Rattle.rules.specs.Printing.{refusedLine, printed, printedFor, printOn}
+use Rattle.rules.specs.Printing.{refusedLine, printed, printedFor}
 use Rattle.rules.specs.declared.Attribute.{Attribute}
 use Rattle.rules.specs.declared.Attribute.the-variants.{Purity, Germination, Count}
 use Rattle.rules.specs.declared.Card.{Card}
@@ -27,9 +24,7 @@ use Rattle.rules.specs.declared.Limit.the-variants.{Absent, At}
 use Rattle.rules.specs.declared.Value.{Value}
 use Rattle.rules.specs.declared.Verdict.{Verdict}
 use Rattle.rules.specs.declared.Verdict.the-variants.{Kept, Over, Undecided}
-use Rattle.rules.specs.declared.Printed.{Printed}
-use Rattle.rules.specs.declared.Printed.the-variants.{Length, BufferShort}
-use Rattle.rules.proofs.TextLaws.{length-decimal, length-pointed-le, fits-is}
+use Rattle.rules.proofs.TextLaws.{length-decimal, length-pointed-le}
 
 pick-most : (b : Bool) (x y : List ℕ) (n : ℕ) → length x ≤ n → length y ≤ n → length (pick b x y) ≤ n
 pick-most true x y n h k = h
@@ -129,17 +124,3 @@ outcome-most (refused e line) = omega (arith, refused-most e line)
 pub printed-most : (s : List ℕ) → length (printedFor s) ≤ 256
 unfolding printedFor
 printed-most s = outcome-most (readOf s)
-
--- a buffer of 256 bytes serves every sheet
-pub never-short : (s d e : List ℕ) → 256 ≤ length d → printedAnswer BufferShort e ≡ printOn s d → ⊥
-never-short s d e h q =
-    eqb-false 16 0 refl (ap (λ (t : TextAnswer). t .number) (q ∙ fits-is (printedFor s) d (omega (arith, printed-most s))))
-
--- what is printed stands within the buffer
-pub printed-within : (s d e : List ℕ) (r : Printed) (n : ℕ) → r ≡ Length n → printedAnswer r e ≡ printOn s d → n ≤ length d
-unfolding laidIn
-printed-within s d e r n i q = by (ltb (length d) (length (printedFor s))) refl (rw i at q)
-  where
-    by : (b : Bool) → ltb (length d) (length (printedFor s)) ≡ b → wrote n e ≡ pick b (refusesText 16 d) (wrote (length (printedFor s)) (laid (printedFor s) d)) → n ≤ length d
-    by true h q = absurd (eqb-false 0 16 refl (ap (λ (t : TextAnswer). t .number) q))
-    by false h q = omega (arith, ap (λ (t : TextAnswer). t .size) q, ltb-false (length d) (length (printedFor s)) h)

@@ -38,12 +38,11 @@ ended-opened stage.Result e = refl
 ended-opened stage.End e = refl
 
 -- A frame of kind k that may stand behind one of kind j: 01 and 02 behind the kind before them, the others behind the card's head,
--- behind no higher kind and not behind the end.
+-- behind no higher kind.
 pub record Follows (k j : ℕ) : Type 0 where
   pub first : k ≤ 2 → j + 1 ≡ k
   pub later : 3 ≤ k → 2 ≤ j
   pub rising : j ≤ k
-  pub unended : j < 6
 
 module _ (k : ℕ) where
   -- one of the kinds from j on
@@ -63,19 +62,19 @@ module _ (k : ℕ) where
   from-3 : eqb k 3 || (eqb k 4 || (eqb k 5 || eqb k 6)) ≡ true → 3 ≤ k
   from-3 e = from 3 (eqb k 4 || (eqb k 5 || eqb k 6)) (λ q. omega (arith, from-4 q)) e
 
-  headed : (j : ℕ) → 2 ≤ j → j < 6 → j ≤ k → 3 ≤ k → Follows k j
-  headed j a b c d = record { first = λ h. absurd (omega arith); later = λ h. a; rising = c; unended = b }
+  headed : (j : ℕ) → 2 ≤ j → j ≤ k → 3 ≤ k → Follows k j
+  headed j a b c = record { first = λ h. absurd (omega arith); later = λ h. a; rising = b }
 
   begins : (j : ℕ) → j ≤ 1 → k ≡ j + 1 → Follows k j
-  begins j a e = record { first = λ h. omega arith; later = λ h. absurd (omega arith); rising = omega arith; unended = omega arith }
+  begins j a e = record { first = λ h. omega arith; later = λ h. absurd (omega arith); rising = omega arith }
 
   pub follows : (t : Stage) → mayStand k t ≡ true → Follows k (kindBefore t)
   follows stage.Start e = begins 0 (omega arith) (eqb-true k 1 e)
   follows stage.Lot e = begins 1 (omega arith) (eqb-true k 2 e)
-  follows stage.Card e = let h = from-3 e in headed 2 (omega arith) (omega arith) (omega arith) h
-  follows stage.Critical e = let h = from-3 e in headed 3 (omega arith) (omega arith) h h
-  follows stage.Range e = let h = from-4 e in headed 4 (omega arith) (omega arith) h (omega arith)
-  follows stage.Result e = let h = from-5 e in headed 5 (omega arith) (omega arith) h (omega arith)
+  follows stage.Card e = let h = from-3 e in headed 2 (omega arith) (omega arith) h
+  follows stage.Critical e = let h = from-3 e in headed 3 (omega arith) h h
+  follows stage.Range e = let h = from-4 e in headed 4 (omega arith) h (omega arith)
+  follows stage.Result e = let h = from-5 e in headed 5 (omega arith) h (omega arith)
   follows stage.End e = absurd (true≢false (sym e))
 
   -- before the results the lot is not opened

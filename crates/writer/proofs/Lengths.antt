@@ -15,7 +15,7 @@ use Rattle.rules.specs.declared.Head.{Head}
 use Rattle.rules.specs.declared.Card.{Card}
 use Rattle.rules.proofs.FieldLaws.{length-digits}
 use Rattle.writer.specs.Promise.{counted, isFilled, filled, sheetRoom}
-use Rattle.writer.proofs.Counting.{counted-most, count-next, count-room}
+use Rattle.writer.proofs.Counting.{count-next, count-room}
 
 lot-length : (a n : ℕ) → length (lotLine a n) ≡ lotBytes
 unfolding lotLine
@@ -93,7 +93,3 @@ filled-next l n = count-next isFilled l n
 pub filled-room : (l : List ℕ) (i n : ℕ) → i < n → filled l i + counted (isFilled (getD l i 0)) ≤ filled l n
 unfolding filled
 filled-room l i n h = count-room isFilled l i n h
-
-pub filled-one : (l : List ℕ) (n : ℕ) → filled l (suc n) ≤ filled l n + 1
-unfolding filled
-filled-one l n = omega (arith, counted-most (isFilled (getD l n 0)))
