@@ -1,13 +1,13 @@
 -- What lotreport prints, worked out with the results as a list beside the state, and no further into the bytes than they matter.
 use Prim.Native.Nat.{ℕ, _+_}
-use mathlib.Core.Bool.{Bool, true, false, _||_}
+use mathlib.Core.Bool.{Bool, true, false}
 use mathlib.Core.List.{List, [], _∷_, _++_}
 use lib.Dec.{eqb, leb, ltb}
 use lib.ListN.{length}
 use Rattle.rules.specs.Choice.{pick, unless}
-use Rattle.rules.specs.Limits.{mostHeld, leastReported, highestX, mostDigits}
+use Rattle.rules.specs.Limits.{leastReported, mostDigits}
 use Rattle.rules.specs.Contents.{holds, put, isHeld}
-use Rattle.rules.specs.Ledger.{Ledger, Judged, containers, judged, withContents}
+use Rattle.rules.specs.Ledger.{Ledger, Judged, containers, judged, enterNumberBy, withContents}
 use Rattle.rules.specs.Text.{byte, decimals, decimal, lastDigits, pointed}
 use Rattle.rules.specs.Cards.{rowsGood, criticalsGood}
 use Rattle.rules.specs.Rounding.{nearestOf}
@@ -25,15 +25,8 @@ use Rattle.reading_theorems.specs.Spelling.{Entry, entryOf}
 use Rattle.evaluation.specs.Entries.{gathered, figuresOver}
 
 -- ---- an enter on a ledger that is known to hold k results
-abbrev pub enterNumberAt : ℕ → Ledger → ℕ → ℕ → ℕ
-enterNumberAt k g c x =
-    pick (eqb c 0 || ltb (containers g) c) 6
-    (pick (ltb highestX x) 7
-    (pick (isHeld (g .contents c)) 8
-    (pick (leb mostHeld k) 9 0)))
-
 abbrev pub enterAt : ℕ → Ledger → ℕ → ℕ → Judged
-enterAt k g c x = judged (enterNumberAt k g c x) g (withContents g (put (g .contents) c (holds x)))
+enterAt k g c x = judged (enterNumberBy (containers g) (isHeld (g .contents c)) k c x) g (withContents g (put (g .contents) c (holds x)))
 
 -- a result frame, with the number of those before it for what is held
 unfoldable pub resultAt : State → ℕ → ℕ → Next

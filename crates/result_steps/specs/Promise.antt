@@ -36,26 +36,26 @@ atResults = resultsAt stage.Result 0
 
 -- ---- what a line comes to, on any lists
 -- it is taken, with the lists after it, or refused with a number, and the lists stay
-pub data Came : Type 0 where
-  taken : Results → List ℕ → List ℕ → Came
-  refused : ℕ → Came
+pub data LineOutcome : Type 0 where
+  taken : Results → List ℕ → List ℕ → LineOutcome
+  refused : ℕ → LineOutcome
 
 -- 05: an enter on the lists
-abbrev pub resultOn : Lot → Results → List ℕ → List ℕ → ℕ → ℕ → Came
+abbrev pub resultOn : Lot → Results → List ℕ → List ℕ → ℕ → ℕ → LineOutcome
 resultOn l p ks vs k x =
     unless (mayStand 5 (p .stage)) (refused 2)
     (unless (eqb (enterInNumber l ks vs (p .held) k x) 0) (refused (enterInNumber l ks vs (p .held) k x))
     (taken (resultsAt stage.Result (p .held + 1)) (set ks (p .held) k) (set vs (p .held) x)))
 
 -- 06: the number of results
-abbrev pub endOn : Results → List ℕ → List ℕ → ℕ → Came
+abbrev pub endOn : Results → List ℕ → List ℕ → ℕ → LineOutcome
 endOn p ks vs n =
     unless (mayStand 6 (p .stage)) (refused 2)
     (unless (eqb n (p .held)) (refused 14)
     (taken (resultsAt stage.End (p .held)) ks vs))
 
 -- a line with this frame: no frame of lot or card may stand
-abbrev pub lineOn : Frame → Lot → Results → List ℕ → List ℕ → Came
+abbrev pub lineOn : Frame → Lot → Results → List ℕ → List ℕ → LineOutcome
 lineOn frame.Bad l p ks vs = refused 1
 lineOn (frame.Lot a n) l p ks vs = refused 2
 lineOn (frame.Card f g n) l p ks vs = refused 2

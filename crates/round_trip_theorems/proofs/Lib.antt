@@ -5,5 +5,5 @@ pub mod CardLines
 pub mod ResultLines
 pub mod Back
 pub mod Longest
-pub mod OnePast
+pub mod OneLineMore
 pub mod Trip

@@ -32,7 +32,7 @@ use Rattle.round_trip_theorems.specs.Statement.{ReadsAs, Yields, Written
 use Rattle.round_trip_theorems.proofs.Writable.{sound-writable, yields}
 use Rattle.round_trip_theorems.proofs.Back.{back}
 use Rattle.round_trip_theorems.proofs.Longest.{calls, long, full-writable}
-use Rattle.round_trip_theorems.proofs.OnePast.{needed}
+use Rattle.round_trip_theorems.proofs.OneLineMore.{needed}
 
 -- ---- the reader's answer to a sheet that the definition accepts
 accepts : (o : Answer) (t : Tally) (g : Ledger) (n : ℕ) → outcomeOf o t ≡ accepted g n → (o ≡ answer.Accepted n) × (view t ≡ g)

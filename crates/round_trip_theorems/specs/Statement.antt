@@ -62,15 +62,15 @@ filling zero = opens start fullLot fullCard
 filling (suc n) = enters (filling n) (suc n) 0
 
 -- one line more, of the most bytes, behind the sheet of what they end with
-abbrev pub lineMore : List ℕ
-lineMore = rangeLine leastReported mostHeld 0 0
+abbrev pub oneLine : List ℕ
+oneLine = rangeLine leastReported mostHeld 0 0
 
-abbrev pub onePast : List ℕ
-onePast = sheetOf (ledger (filling mostHeld)) ++ lineMore
+abbrev pub oneLineMore : List ℕ
+oneLineMore = sheetOf (ledger (filling mostHeld)) ++ oneLine
 
 -- its bytes but the last do not decide what is printed for it
-abbrev pub Needed : Type 0
-Needed = printedFor (take (longest + mostDigits) onePast) ≡ printedFor onePast → ⊥
+abbrev pub LastByteNeeded : Type 0
+LastByteNeeded = printedFor (take (longest + mostDigits) oneLineMore) ≡ printedFor oneLineMore → ⊥
 
 -- ---- all that is said
 pub record Trip : Type 0 where
@@ -90,4 +90,4 @@ pub record Trip : Type 0 where
   pub long : length (sheetOf (ledger (filling mostHeld))) ≡ longest
   pub reached : (κ : Lft) (sheet : RefT (List ℕ)) (r : Reading) → now sheet ≡ sheetOf (ledger (filling mostHeld)) → ReadStep κ sheet r → Yields (now sheet) r (ledger (filling mostHeld))
   -- one byte fewer than the longest sheet and one line more have (reading_theorems: bytesThatDecide) does not decide what is printed
-  pub needed : Needed
+  pub needed : LastByteNeeded

@@ -81,17 +81,17 @@ table =
     ∷ answers (samplingOf 2 200) (gives 6)
     ∷ []
 
--- what the definitions tell, and what they should
-abbrev pub told : List Case → List Told
-told [] = []
-told (prints sheet says ∷ cs) = printed (printedFor (text sheet)) ∷ told cs
-told (answers call says ∷ cs) = answered call ∷ told cs
+-- what the definitions tell, and what document 01 says
+abbrev pub byDefinition : List Case → List Told
+byDefinition [] = []
+byDefinition (prints sheet says ∷ cs) = printed (printedFor (text sheet)) ∷ byDefinition cs
+byDefinition (answers call says ∷ cs) = answered call ∷ byDefinition cs
 
-abbrev pub due : List Case → List Told
-due [] = []
-due (prints sheet says ∷ cs) = printed (text says) ∷ due cs
-due (answers call says ∷ cs) = answered says ∷ due cs
+abbrev pub byDocument : List Case → List Told
+byDocument [] = []
+byDocument (prints sheet says ∷ cs) = printed (text says) ∷ byDocument cs
+byDocument (answers call says ∷ cs) = answered says ∷ byDocument cs
 
-pub marked : told table ≡ due table
+pub marked : byDefinition table ≡ byDocument table
 unfolding printedFor readOf readFrom cutFrom frameOf kindFrame lotFrame cardFrame criticalFrame rangeFrame resultFrame endFrame allDigits fieldOf number numberBehind valueOf lotStep cardStep criticalStep rangeStep resultStep endStep total largest smallest rowsGood criticalsGood refusedLine findingsText findingsOf countLine meanLine valueLine lotVerdictLine lotWord limitText verdictWord pointed decimal decimals lastDigits meanOf meanScale isVoid ratio reportedH exceeds toleratedUpto nearestOf samplesOf table2A table2B unitsOf raised differenceFor
 marked = refl

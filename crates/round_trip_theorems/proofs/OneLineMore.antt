@@ -21,7 +21,7 @@ use Rattle.rules.specs.Printing.{refusedLine, printed, printedFor}
 use Rattle.rules.specs.declared.Stage.{Stage}
 use Rattle.rules.specs.declared.Stage.the-variants as stage
 use Rattle.history.specs.Calls.{ledger}
-use Rattle.round_trip_theorems.specs.Statement.{filling, lineMore, onePast, Needed}
+use Rattle.round_trip_theorems.specs.Statement.{filling, oneLine, oneLineMore, LastByteNeeded}
 use Rattle.round_trip_theorems.proofs.Back.{all-reach, read-on}
 use Rattle.round_trip_theorems.proofs.Longest.{long, full-writable}
 
@@ -36,11 +36,11 @@ no-row stage.Result e = absurd (true≢false (sym e))
 no-row stage.End e = refl
 
 -- a row is out of turn there, and a bad line without its end byte
-out-of-turn : (s : State) (n : ℕ) → isEnded (s .stage) ≡ true → readFrom (linesOf lineMore) s n ≡ refused 2 (n + 1)
+out-of-turn : (s : State) (n : ℕ) → isEnded (s .stage) ≡ true → readFrom (linesOf oneLine) s n ≡ refused 2 (n + 1)
 unfolding readFrom cutFrom rangeLine digits digitOf frameOf kindFrame rangeFrame allDigits fieldOf valueOf number numberBehind rangeStep
 out-of-turn s n e = rw (no-row (s .stage) e) refl
 
-bad-line : (s : State) (n : ℕ) → readFrom (linesOf (take mostDigits lineMore)) s n ≡ refused 1 (n + 1)
+bad-line : (s : State) (n : ℕ) → readFrom (linesOf (take mostDigits oneLine)) s n ≡ refused 1 (n + 1)
 unfolding readFrom cutFrom rangeLine digits digitOf
 bad-line s n = refl
 
@@ -49,13 +49,13 @@ differ : (n : ℕ) → refusedLine 1 n ≡ refusedLine 2 n → ⊥
 unfolding refusedLine decimal decimals
 differ n q = let z : _≡_ {A = ℕ} 49 50 = ap (λ (l : List ℕ). getD l 8 0) q in absurd (eqb-false 49 50 refl z)
 
-pub needed : Needed
+pub needed : LastByteNeeded
 unfolding printedFor
 needed q =
     let g = ledger (filling mostHeld) in
     let r = all-reach g full-writable in
     let n = r .lines 0 in
-    let whole : readOf onePast ≡ refused 2 (n + 1) = read-on g full-writable lineMore ∙ out-of-turn (r .last) n (r .holds .0) in
-    let cut : take (length (sheetOf g) + mostDigits) onePast ≡ sheetOf g ++ take mostDigits lineMore = take-append-add (sheetOf g) lineMore mostDigits in
-    let short : readOf (take (length (sheetOf g) + mostDigits) onePast) ≡ refused 1 (n + 1) = ap readOf cut ∙ (read-on g full-writable (take mostDigits lineMore) ∙ bad-line (r .last) n) in
-    differ (n + 1) (sym (ap printed (ap (λ (k : ℕ). readOf (take (k + mostDigits) onePast)) (sym long) ∙ short)) ∙ (q ∙ ap printed whole))
+    let whole : readOf oneLineMore ≡ refused 2 (n + 1) = read-on g full-writable oneLine ∙ out-of-turn (r .last) n (r .holds .0) in
+    let cut : take (length (sheetOf g) + mostDigits) oneLineMore ≡ sheetOf g ++ take mostDigits oneLine = take-append-add (sheetOf g) oneLine mostDigits in
+    let short : readOf (take (length (sheetOf g) + mostDigits) oneLineMore) ≡ refused 1 (n + 1) = ap readOf cut ∙ (read-on g full-writable (take mostDigits oneLine) ∙ bad-line (r .last) n) in
+    differ (n + 1) (sym (ap printed (ap (λ (k : ℕ). readOf (take (k + mostDigits) oneLineMore)) (sym long) ∙ short)) ∙ (q ∙ ap printed whole))
