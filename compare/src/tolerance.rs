@@ -32,7 +32,9 @@ const TABLE_14H: [(u64, u64); 58] = [
     (485, 61), (501, 62),
 ];
 
-/// Table 14G: whether the number found is within tolerance of the number labelled.
+/// Table 14G: whether the number found is within tolerance of the number labelled. Not inlined, since the library's call, whose time is
+/// set against it, cannot be.
+#[inline(never)]
 pub fn label(labelled: u32, found: u32) -> Result<bool, Refusal> {
     let column_b = usize::try_from(labelled).ok().and_then(|row| TABLE_14G.get(row));
     column_b.map(|&most| found <= most).ok_or(Refusal::OutsideTable)
