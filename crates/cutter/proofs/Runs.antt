@@ -36,13 +36,34 @@ module _ (p : ℕ → Bool) where
   pub run-step : (l : List ℕ) (i : ℕ) → i < length l → p (getD l i 0) ≡ true → i + runOf p (drop i l) ≡ (i + 1) + runOf p (drop (i + 1) l)
   run-step l i h e = rw (add-one, drop-cons l i 0) (rw (run-more (getD l i 0) (drop (suc i) l) e) (omega arith))
 
-  pub run-steps : (l : List ℕ) (i n : ℕ) → i + n ≤ length l → allPass p l i n ≡ true → i + runOf p (drop i l) ≡ (i + n) + runOf p (drop (i + n) l)
+  run-steps : (l : List ℕ) (i n : ℕ) → i + n ≤ length l → allPass p l i n ≡ true → i + runOf p (drop i l) ≡ (i + n) + runOf p (drop (i + n) l)
   unfolding allPass
   run-steps l i zero h e = let here : i ≡ i + 0 = omega arith in ap (λ (k : ℕ). k + runOf p (drop k l)) here
   run-steps l i (suc n) h e =
       let next : i + n + 1 ≡ i + suc n = omega arith in
       run-steps l i n (omega arith) (and-left (allPass p l i n) _ e)
       ∙ (run-step l (i + n) (omega arith) (and-right (allPass p l i n) _ e) ∙ ap (λ (k : ℕ). k + runOf p (drop k l)) next)
+
+  -- the first m of n bytes that pass
+  pass-fewer : (l : List ℕ) (i n m : ℕ) → m ≤ n → allPass p l i n ≡ true → allPass p l i m ≡ true
+  unfolding allPass
+  pass-fewer l i zero zero h e = refl
+  pass-fewer l i zero (suc m) h e = absurd (omega arith)
+  pass-fewer l i (suc n) m h e = by (decLe m n) (λ q. pass-fewer l i n m q (and-left (allPass p l i n) _ e))
+    where
+      by : Dec (m ≤ n) → (m ≤ n → allPass p l i m ≡ true) → allPass p l i m ≡ true
+      by (yes q) f = f q
+      by (no q) f = let k : m ≡ suc n = omega arith in ap (allPass p l i) k ∙ e
+
+  -- eight bytes from i on pass, and eight up to j, so that all from i to j do, and the one at j fails
+  pub run-eights : (l : List ℕ) (i j : ℕ) → i + 8 ≤ j → j ≤ i + 16 → j < length l → allPass p l i 8 ≡ true → allPass p l (j - 8) 8 ≡ true
+      → p (getD l j 0) ≡ false → j ≡ i + runOf p (drop i l)
+  run-eights l i j a b h e f g =
+      let first : i + (j - 8 - i) ≡ j - 8 = omega arith in
+      let last : j - 8 + 8 ≡ j = omega arith in
+      let to = run-steps l i (j - 8 - i) (omega arith) (pass-fewer l i 8 (j - 8 - i) (omega arith) e) in
+      let on = run-steps l (j - 8) 8 (omega arith) f in
+      omega (arith, rw first at to, rw last at on, run-stop l j h g)
 
   -- eight bytes that were looked at one by one
   pub eight-pass : (l : List ℕ) (i : ℕ) {a b c d e f g h : Bool} → a ≡ p (getD l i 0) → b ≡ p (getD l (i + 1) 0) → c ≡ p (getD l (i + 2) 0)

@@ -2,9 +2,13 @@
 ghost use mathlib.Core.Path.{_≡_};
 ghost use Prim.Native.Nat.{_+_, _≤_};
 ghost use lib.ListN.{length, drop};
+ghost use Rattle.rules.specs.Limits.{mostDigits};
 ghost use Rattle.rules.specs.Fields.{isDigit};
 ghost use Rattle.cutter.specs.Runs.{runOf, allPass};
 ghost use Rattle.cutter.specs.Cutting.{CutAt};
+use rules::CARD_DIGITS;
+use rules::RANGE_DIGITS;
+use rules::RESULT_DIGITS;
 
 fn is_digit(c: u8) -> bool
     ensures { λ r. ⌜ r ≡ isDigit c ⌝ }
@@ -27,27 +31,12 @@ fn eight_digits(sheet: &[u8], at: usize) -> bool
         & is_digit(sheet[at + 7])
 }
 
-// A place from `at` on with nothing but digits before it, as many eights of them as there are.
-fn eights_end(sheet: &[u8], at: usize) -> usize
-    requires { ⌜ at ≤ length (now sheet) ⌝ }
-    ensures { λ r. ⌜ (at + runOf isDigit (drop at (now (sheet .entry))) ≡ r + runOf isDigit (drop r (now (sheet .entry)))) × (r ≤ length (now (sheet .entry))) ⌝ }
-{
-    let mut past = at;
-    while 8 <= sheet.len() - past {
-        if !eight_digits(sheet, past) {
-            return past;
-        }
-        past += 8;
-    }
-    past
-}
-
 // Where the digits that start at `at` end: at the first byte that is none, or at the sheet's end.
 fn digits_end(sheet: &[u8], at: usize) -> usize
     requires { ⌜ at ≤ length (now sheet) ⌝ }
     ensures { λ r. ⌜ (r ≡ at + runOf isDigit (drop at (now (sheet .entry)))) × (r ≤ length (now (sheet .entry))) ⌝ }
 {
-    let mut i = eights_end(sheet, at);
+    let mut i = at;
     while i < sheet.len() {
         if !is_digit(sheet[i]) {
             return i;
@@ -57,12 +46,42 @@ fn digits_end(sheet: &[u8], at: usize) -> usize
     i
 }
 
+// How many digits a good line has whose second byte is this one, if they are more than eight; else eight.
+fn likely_digits(kind: u8) -> usize
+    ensures { λ r. ⌜ (8 ≤ r) × (r ≤ mostDigits) ⌝ }
+{
+    match kind {
+        b'2' => CARD_DIGITS,
+        b'4' => RANGE_DIGITS,
+        b'5' => RESULT_DIGITS,
+        _ => 8,
+    }
+}
+
+// The same, in few steps where a good line of eight digits or more starts: its first eight bytes and its last eight are digits, some of
+// them perhaps in both, and the end byte follows. The first eight have a branch of their own, before the kind is read: the compiler makes
+// better code of that than of one test.
+fn line_end(sheet: &[u8], at: usize) -> usize
+    requires { ⌜ at ≤ length (now sheet) ⌝ }
+    ensures { λ r. ⌜ (r ≡ at + runOf isDigit (drop at (now (sheet .entry)))) × (r ≤ length (now (sheet .entry))) ⌝ }
+{
+    if RANGE_DIGITS < sheet.len() - at {
+        if eight_digits(sheet, at) {
+            let end = at + likely_digits(sheet[at + 1]);
+            if eight_digits(sheet, end - 8) & (sheet[end] == b'\n') {
+                return end;
+            }
+        }
+    }
+    digits_end(sheet, at)
+}
+
 // The digits of the line that starts at `at`: a part of the sheet. Whether the line's end byte follows them, the caller sees by their
 // length.
 pub fn cut(sheet: &[u8], at: usize) -> &[u8]
     ensures { λ r. ⌜ CutAt (sheet .entry) at r ⌝ }
 {
     let start = checks::least(at, sheet.len());
-    let end = digits_end(sheet, start);
+    let end = line_end(sheet, start);
     &sheet[start..end]
 }

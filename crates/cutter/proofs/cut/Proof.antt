@@ -16,7 +16,7 @@ returns c =
     let b = c .before .before .least in
     let q : b .result + ptr s .1 ≡ ptr s .1 + min (c .before .before .before .before .args .at) (length (now s)) = omega arith in
     record {
-      bytes = run-part isDigit _ _ _ _ (b .ensures) (c .before .digits-end .ensures .0);
+      bytes = run-part isDigit _ _ _ _ (b .ensures) (c .before .line-end .ensures .0);
       place = ap (λ (n : ℕ). (ptr s .0, n)) q;
     }
 

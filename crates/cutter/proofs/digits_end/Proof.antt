@@ -1,5 +1,5 @@
 -- `cutter::digits_end` meets its contract.
-use mathlib.Core.Path.{_≡_, sym, _∙_}
+use mathlib.Core.Path.{_≡_, refl, sym, _∙_}
 use Prim.Native.Nat.{_+_, _-_, _≤_}
 use native.Mathlib.Omega.{arith}
 use lib.ListN.{length, drop, length-drop}
@@ -20,7 +20,7 @@ abbrev μ-loop : tie.MeasureT-loop
 returns : tie.Need-returns Inv-loop μ-loop
 returns c =
     let at = c .before .before .before .before .loop in
-    let s = c .before .before .before .before .before .before .before .args .sheet .now in
+    let s = c .before .before .before .before .before .before .args .sheet .now in
     let stop = run-stop isDigit s (at .i) (c .before .before .before .loop-test .taken) (sym (c .before .is-digit .ensures) ∙ not-true _ (c .if1 .taken)) in
     (omega (arith, at .inv .1, stop), search needs)
 
@@ -32,11 +32,11 @@ loop-again c =
 returns-2 : tie.Need-returns-2 Inv-loop μ-loop
 returns-2 c =
     let at = c .before .loop in
-    let s = c .before .before .before .before .args .sheet .now in
+    let s = c .before .before .before .args .sheet .now in
     (omega (arith, at .inv .1, run-le isDigit (drop (at .i) s), length-drop (at .i) s), at .inv .0)
 
 pub digits-end-spec : {M : Type 1} → statement M
 digits-end-spec =
     tie.close
-    (tie.spec Inv-loop μ-loop (λ c κs. search needs) (λ c. (c .eights-end .ensures .1, c .eights-end .ensures .0)) (λ c. search needs)
+    (tie.spec Inv-loop μ-loop (λ c. (c .before .pre, refl)) (λ c. search needs)
     (λ c κs. search needs) returns (λ c. search needs) (λ c. search needs) loop-again returns-2)
