@@ -5,6 +5,7 @@ ghost use Prim.Native.Nat.{_+_, _≤_};
 ghost use lib.ListN.{length};
 ghost use Rattle.rules.specs.Fields.{isDigit, allDigits, valueOf, fieldOf};
 ghost use Rattle.rules.specs.Frames.{lotFrame, cardFrame, criticalFrame, rangeFrame, resultFrame, endFrame, kindFrame, frameOf};
+ghost use Rattle.frames.specs.Words.{wordAt, valuesAt};
 ghost use Rattle.frames.specs.Promise.{LineAt};
 use rules::CARD_DIGITS;
 use rules::CRITICAL_DIGITS;
@@ -29,18 +30,43 @@ fn digit_value(c: u8) -> u16
     (c % 16 + c / 64 * 9) as u16
 }
 
-// The field of `count` digits from `from` on.
-fn field(line: &[u8], from: usize, count: usize) -> u16
-    requires { ⌜ (from + count ≤ length (now line)) × (count ≤ 4) × (allDigits (now line) ≡ true) ⌝ }
-    ensures { λ r. ⌜ r ≡ fieldOf (now (line .entry)) from count ⌝ }
+// The field of two digits from `from` on.
+fn two(line: &[u8], from: usize) -> u16
+    requires { ⌜ (from + 2 ≤ length (now line)) × (allDigits (now line) ≡ true) ⌝ }
+    ensures { λ r. ⌜ r ≡ fieldOf (now (line .entry)) from 2 ⌝ }
 {
-    let mut v: u16 = 0;
-    let mut i = 0;
-    while i < count {
-        v = v * 16 + digit_value(line[from + i]);
-        i += 1;
-    }
-    v
+    digit_value(line[from]) * 16 + digit_value(line[from + 1])
+}
+
+// Four bytes as one number, the first the lowest. A sum of products: the compiler makes one load of it.
+fn word(line: &[u8], from: usize) -> u32
+    requires { ⌜ from + 4 ≤ length (now line) ⌝ }
+    ensures { λ r. ⌜ r ≡ wordAt (now (line .entry)) from ⌝ }
+{
+    line[from] as u32
+        + 256 * line[from + 1] as u32
+        + 65536 * line[from + 2] as u32
+        + 16777216 * line[from + 3] as u32
+}
+
+// The values of the four digits from `from` on, a byte each, the first the lowest. Each is made as in `digit_value`, but all four at
+// once: that takes as many steps as one.
+fn values(line: &[u8], from: usize) -> u32
+    requires { ⌜ (from + 4 ≤ length (now line)) × (allDigits (now line) ≡ true) ⌝ }
+    ensures { λ r. ⌜ r ≡ valuesAt (now (line .entry)) from ⌝ }
+{
+    let w = word(line, from);
+    (w & 0x0F0F0F0F) + 9 * (w / 64 & 0x01010101)
+}
+
+// The field of four digits from `from` on. The first byte of `p` is the number of the first two, and its third that of the last two.
+fn four(line: &[u8], from: usize) -> u16
+    requires { ⌜ (from + 4 ≤ length (now line)) × (allDigits (now line) ≡ true) ⌝ }
+    ensures { λ r. ⌜ r ≡ fieldOf (now (line .entry)) from 4 ⌝ }
+{
+    let v = values(line, from);
+    let p = (16 * v + v / 256) & 0x00FF00FF;
+    (256 * (p % 256) + p / 65536) as u16
 }
 
 fn lot_frame(line: &[u8]) -> Frame
@@ -49,8 +75,8 @@ fn lot_frame(line: &[u8]) -> Frame
 {
     if line.len() == LOT_DIGITS {
         return Frame::Lot {
-            attribute: field(line, 2, 2),
-            containers: field(line, 4, 4),
+            attribute: two(line, 2),
+            containers: four(line, 4),
         };
     }
     Frame::Bad
@@ -62,9 +88,9 @@ fn card_frame(line: &[u8]) -> Frame
 {
     if line.len() == CARD_DIGITS {
         return Frame::Card {
-            factor: field(line, 2, 2),
-            offset: field(line, 4, 2),
-            seeds: field(line, 6, 4),
+            factor: two(line, 2),
+            offset: two(line, 4),
+            seeds: four(line, 6),
         };
     }
     Frame::Bad
@@ -76,8 +102,8 @@ fn critical_frame(line: &[u8]) -> Frame
 {
     if line.len() == CRITICAL_DIGITS {
         return Frame::Critical {
-            count: field(line, 2, 2),
-            value: field(line, 4, 4),
+            count: two(line, 2),
+            value: four(line, 4),
         };
     }
     Frame::Bad
@@ -89,10 +115,10 @@ fn range_frame(line: &[u8]) -> Frame
 {
     if line.len() == RANGE_DIGITS {
         return Frame::Range {
-            lowest: field(line, 2, 2),
-            highest: field(line, 4, 2),
-            bound: field(line, 6, 4),
-            tolerated: field(line, 10, 4),
+            lowest: two(line, 2),
+            highest: two(line, 4),
+            bound: four(line, 6),
+            tolerated: four(line, 10),
         };
     }
     Frame::Bad
@@ -104,8 +130,8 @@ fn result_frame(line: &[u8]) -> Frame
 {
     if line.len() == RESULT_DIGITS {
         return Frame::Result {
-            container: field(line, 2, 4),
-            x: field(line, 6, 4),
+            container: four(line, 2),
+            x: four(line, 6),
         };
     }
     Frame::Bad
@@ -117,7 +143,7 @@ fn end_frame(line: &[u8]) -> Frame
 {
     if line.len() == END_DIGITS {
         return Frame::End {
-            count: field(line, 2, 2),
+            count: two(line, 2),
         };
     }
     Frame::Bad
@@ -147,7 +173,7 @@ fn frame_of(line: &[u8]) -> Frame
     if line.len() < 2 {
         return Frame::Bad;
     }
-    kind_frame(field(line, 0, 2), line)
+    kind_frame(two(line, 0), line)
 }
 
 // What the line that starts at `at` says. A line with another byte than digits, or without its end byte, is a bad one.

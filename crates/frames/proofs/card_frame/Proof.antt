@@ -10,5 +10,5 @@ unfolding cardFrame
 card-frame-spec =
     tie.close
     (tie.spec (λ c κs. search needs) (λ c κs. search needs) (λ c κs. search needs)
-    (λ c. simp (eq-eqb _ _ (c .before .before .before .if1 .taken), c .before .before .field .ensures, c .before .field2 .ensures, c .field3 .ensures))
+    (λ c. simp (eq-eqb _ _ (c .before .before .before .if1 .taken), c .before .before .two .ensures, c .before .two2 .ensures, c .four .ensures))
     (λ c. simp (ne-eqb _ _ (c .if1 .left))))

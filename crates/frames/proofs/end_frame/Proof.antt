@@ -9,4 +9,4 @@ pub end-frame-spec : {M : Type 1} → statement M
 unfolding endFrame
 end-frame-spec =
     tie.close
-    (tie.spec (λ c κs. search needs) (λ c. simp (eq-eqb _ _ (c .before .if1 .taken), c .field .ensures)) (λ c. simp (ne-eqb _ _ (c .if1 .left))))
+    (tie.spec (λ c κs. search needs) (λ c. simp (eq-eqb _ _ (c .before .if1 .taken), c .two .ensures)) (λ c. simp (ne-eqb _ _ (c .if1 .left))))

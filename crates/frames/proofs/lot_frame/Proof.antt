@@ -10,4 +10,4 @@ unfolding lotFrame
 lot-frame-spec =
     tie.close
     (tie.spec (λ c κs. search needs) (λ c κs. search needs)
-    (λ c. simp (eq-eqb _ _ (c .before .before .if1 .taken), c .before .field .ensures, c .field2 .ensures)) (λ c. simp (ne-eqb _ _ (c .if1 .left))))
+    (λ c. simp (eq-eqb _ _ (c .before .before .if1 .taken), c .before .two .ensures, c .four .ensures)) (λ c. simp (ne-eqb _ _ (c .if1 .left))))

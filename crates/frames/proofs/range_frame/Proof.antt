@@ -10,7 +10,7 @@ returns : tie.Need-returns
 unfolding rangeFrame
 returns c =
     let d = c .before .before in
-    simp (eq-eqb _ rangeDigits (d .before .before .if1 .taken), d .before .field .ensures, d .field2 .ensures, c .before .field3 .ensures, c .field4 .ensures)
+    simp (eq-eqb _ rangeDigits (d .before .before .if1 .taken), d .before .two .ensures, d .two2 .ensures, c .before .four .ensures, c .four2 .ensures)
 
 pub range-frame-spec : {M : Type 1} → statement M
 unfolding rangeFrame

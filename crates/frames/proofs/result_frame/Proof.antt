@@ -10,4 +10,4 @@ unfolding resultFrame
 result-frame-spec =
     tie.close
     (tie.spec (λ c κs. search needs) (λ c κs. search needs)
-    (λ c. simp (eq-eqb _ _ (c .before .before .if1 .taken), c .before .field .ensures, c .field2 .ensures)) (λ c. simp (ne-eqb _ _ (c .if1 .left))))
+    (λ c. simp (eq-eqb _ _ (c .before .before .if1 .taken), c .before .four .ensures, c .four2 .ensures)) (λ c. simp (ne-eqb _ _ (c .if1 .left))))
