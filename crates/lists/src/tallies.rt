@@ -1,37 +1,31 @@
 // A small function to each call, so that the compiler can do its work where the tally lies. Each lays the call's answer into the
-// buffer from `at` on, and gives the tally after it. A call whose bytes are not all there is not made.
+// buffer from `at` on, and gives the tally after it.
+ghost use Prim.Native.Nat.{_≤_};
+ghost use lib.ListN.{length};
 use crate::numbers;
 use crate::opening;
-use crate::widths::OPEN_WIDTH;
 use crate::widths::REPORT;
 use rules::TextSize;
 use tally::Tally;
 
-pub fn opened(t: Tally, call: &[u8], buf: &mut [u8], at: usize) -> Tally {
-    if call.len() < OPEN_WIDTH {
-        return t;
-    }
+pub fn opened(t: Tally, call: &[u8], buf: &mut [u8], at: usize) -> Tally
+    requires { ⌜ 1026 ≤ length (now call) ⌝ }
+{
     let outcome = tally::open(t, opening::lot_of(call), opening::card_of(call));
     let refusal = outcome.refusal;
     numbers::lay(buf, at, refusal.number() as usize);
     outcome.tally
 }
 
-pub fn entered(t: Tally, call: &[u8], buf: &mut [u8], at: usize) -> Tally {
-    if call.len() < 6 {
-        return t;
-    }
-    let outcome = tally::enter(t, numbers::two(call, 2), numbers::two(call, 4));
+pub fn entered(t: Tally, container: u16, x: u16, buf: &mut [u8], at: usize) -> Tally {
+    let outcome = tally::enter(t, container, x);
     let refusal = outcome.refusal;
     numbers::lay(buf, at, refusal.number() as usize);
     outcome.tally
 }
 
-pub fn withdrawn(t: Tally, call: &[u8], buf: &mut [u8], at: usize) -> Tally {
-    if call.len() < 4 {
-        return t;
-    }
-    let outcome = tally::withdraw(t, numbers::two(call, 2));
+pub fn withdrawn(t: Tally, container: u16, buf: &mut [u8], at: usize) -> Tally {
+    let outcome = tally::withdraw(t, container);
     let refusal = outcome.refusal;
     numbers::lay(buf, at, refusal.number() as usize);
     outcome.tally

@@ -1,6 +1,7 @@
 // The two bytes that a call begins with, and how many bytes the call and its answer take.
 ghost use Prim.Native.Nat.{_≤_, _<_};
 ghost use lib.ListN.{length};
+ghost use Rattle.lists.specs.Widths.{Wide, WidthOf};
 use crate::numbers;
 
 pub const OPEN: u8 = 1;
@@ -18,7 +19,9 @@ pub const WRITE: u8 = 6;
 pub const OPEN_WIDTH: usize = 1026;
 
 // By a call's kind, 0 for no kind.
-fn kind_width(kind: u8) -> usize {
+fn kind_width(kind: u8) -> usize
+    ensures { λ r. ⌜ Wide kind r ⌝ }
+{
     match kind {
         OPEN => OPEN_WIDTH,
         ENTER => 6,
@@ -56,7 +59,7 @@ pub fn joined_from(name: u8) -> usize
 
 // Of the call that stands first in a list, or 0 where none does.
 pub fn call_width(list: &[u8]) -> usize
-    ensures { λ r. ⌜ r ≤ length (now (list .entry)) ⌝ }
+    ensures { λ r. ⌜ WidthOf (now (list .entry)) r ⌝ }
 {
     if list.len() < 2 {
         return 0;
@@ -81,4 +84,32 @@ pub fn answer_width(list: &[u8]) -> usize {
         return 1;
     }
     3 + numbers::two(list, 2) as usize
+}
+
+// How many bytes a call and its answer take.
+pub struct Next {
+    pub call: usize,
+    pub answer: usize,
+}
+
+// Of the call that stands first in a list, where `name` is its second byte and its answer fits `left` bytes; else 0.
+pub fn next_of(list: &[u8], name: u8, left: usize) -> Next
+    ensures { λ r. ⌜ WidthOf (now (list .entry)) (r .call) × (r .answer ≤ left) ⌝ }
+{
+    let none = Next { call: 0, answer: 0 };
+    let call = call_width(list);
+    if call < 2 {
+        return none;
+    }
+    if list[1] != name {
+        return none;
+    }
+    let answer = answer_width(list);
+    if left < answer {
+        return none;
+    }
+    Next {
+        call: call,
+        answer: answer,
+    }
 }
