@@ -1,6 +1,5 @@
 // The two bytes that a call begins with, and how many bytes the call and its answer take.
 ghost use Prim.Native.Nat.{_≤_, _<_};
-ghost use lib.ListN.{length};
 ghost use Rattle.lists.specs.Widths.{Wide, WidthOf};
 use crate::numbers;
 
@@ -16,7 +15,7 @@ pub const REPORT: u8 = 5;
 
 pub const WRITE: u8 = 6;
 
-pub const OPEN_WIDTH: usize = 1026;
+const OPEN_WIDTH: usize = 1026;
 
 // By a call's kind, 0 for no kind.
 fn kind_width(kind: u8) -> usize
@@ -58,7 +57,7 @@ pub fn joined_from(name: u8) -> usize
 }
 
 // Of the call that stands first in a list, or 0 where none does.
-pub fn call_width(list: &[u8]) -> usize
+fn call_width(list: &[u8]) -> usize
     ensures { λ r. ⌜ WidthOf (now (list .entry)) r ⌝ }
 {
     if list.len() < 2 {
@@ -76,7 +75,7 @@ pub fn call_width(list: &[u8]) -> usize
 }
 
 // Of the answer to the call that stands first in a list: for a report and a write with the buffer that is lent.
-pub fn answer_width(list: &[u8]) -> usize {
+fn answer_width(list: &[u8]) -> usize {
     if list.len() < 4 {
         return 1;
     }
@@ -96,17 +95,10 @@ pub struct Next {
 pub fn next_of(list: &[u8], name: u8, left: usize) -> Next
     ensures { λ r. ⌜ WidthOf (now (list .entry)) (r .call) × (r .answer ≤ left) ⌝ }
 {
-    let none = Next { call: 0, answer: 0 };
     let call = call_width(list);
-    if call < 2 {
-        return none;
-    }
-    if list[1] != name {
-        return none;
-    }
     let answer = answer_width(list);
-    if left < answer {
-        return none;
+    if call < 2 || list[1] != name || left < answer {
+        return Next { call: 0, answer: 0 };
     }
     Next {
         call: call,
