@@ -12,7 +12,9 @@ use tally::Tally;
 use widths::ENTER;
 use widths::JOIN;
 use widths::OPEN;
+use widths::REPORT;
 use widths::WITHDRAW;
+use widths::WRITE;
 
 // What calls on one tally leave: the tally, and the places behind the calls in the list and behind the answers in the buffer.
 struct Made {
@@ -21,9 +23,9 @@ struct Made {
     at: usize,
 }
 
-// Makes the calls of a list from `from` on, as long as their second byte is `name`, and lays their answers into the buffer from
-// `at` on. So all of them are made on t, and a join joins `other` into it. A tally that was joined into itself is no longer
-// `other`, so the calls end there. One function makes them all, so that the tally is not copied from call to call.
+// Makes the opens, enters, withdraws and joins of a list from `from` on, as long as their second byte is `name`, and lays their
+// answers into the buffer from `at` on. So all of them are made on t, and a join joins `other` into it. A tally that was joined into
+// itself is no longer `other`, so the calls end there. One function makes them all, so that the tally is not copied from call to call.
 fn made_on(
     t: Tally,
     other: Tally,
@@ -41,24 +43,23 @@ fn made_on(
     let mut at = at;
     while from < list.len() {
         let rest = &list[from..];
-        let next = widths::next_of(rest, name, buf.len() - at);
+        let next = widths::next_of(rest, name, OPEN, JOIN, buf.len() - at);
         if next.call == 0 {
             break;
         }
-        let kind = rest[0];
-        if kind == OPEN {
-            t = tallies::opened(t, rest, buf, at);
-        } else if kind == ENTER {
-            t = tallies::entered(t, numbers::two(rest, 2), numbers::two(rest, 4), buf, at);
-        } else if kind == WITHDRAW {
-            t = tallies::withdrawn(t, numbers::two(rest, 2), buf, at);
-        } else if kind == JOIN {
-            t = tallies::joined(t, other, buf, at);
-        } else {
-            tallies::texted(t, kind, buf, at, next.answer);
-        }
+        let here = at;
         from += next.call;
         at += next.answer;
+        let kind = rest[0];
+        if kind == OPEN {
+            t = tallies::opened(t, rest, buf, here);
+        } else if kind == ENTER {
+            t = tallies::entered(t, numbers::two(rest, 2), numbers::two(rest, 4), buf, here);
+        } else if kind == WITHDRAW {
+            t = tallies::withdrawn(t, numbers::two(rest, 2), buf, here);
+        } else {
+            t = tallies::joined(t, other, buf, here);
+        }
         if 1 < name {
             break;
         }
@@ -70,6 +71,32 @@ fn made_on(
     }
 }
 
+// What reports and writes leave: the places behind the calls in the list and behind the answers in the buffer.
+struct Told {
+    from: usize,
+    at: usize,
+}
+
+// Makes the reports and writes of a list from `from` on, as long as their second byte is `name`: they leave the tally as it is.
+fn told_of(t: Tally, name: u8, list: &[u8], from: usize, buf: &mut [u8], at: usize) -> Told
+    requires { ⌜ (from ≤ length (now list)) × (at ≤ length (now buf)) ⌝ }
+    ensures { λ r. ⌜ (from ≤ r .from) × (r .from ≤ length (now (list .entry))) × (r .at ≤ length (now (buf .entry))) ⌝ }
+{
+    let mut from = from;
+    let mut at = at;
+    while from < list.len() {
+        let rest = &list[from..];
+        let next = widths::next_of(rest, name, REPORT, WRITE, buf.len() - at);
+        if next.call == 0 {
+            break;
+        }
+        tallies::texted(t, rest[0], buf, at, next.answer);
+        from += next.call;
+        at += next.answer;
+    }
+    Told { from: from, at: at }
+}
+
 // Makes the calls of a list and lays their answers into the buffer; gives the number of bytes laid.
 #[no_mangle]
 pub extern "C" fn gelvorin_calls(list: &[u8], buf: &mut [u8]) -> u64 {
@@ -79,22 +106,24 @@ pub extern "C" fn gelvorin_calls(list: &[u8], buf: &mut [u8]) -> u64 {
     while from + 1 < list.len() {
         let name = list[from + 1];
         let on = widths::made_on(name);
-        let made = made_on(
-            both[on],
-            both[widths::joined_from(name)],
-            name,
-            list,
-            from,
-            buf,
-            at,
-        );
-        if made.from == from {
-            return at as u64;
+        if list[from] < REPORT {
+            let source = widths::joined_from(name);
+            let made = made_on(both[on], both[source], name, list, from, buf, at);
+            if made.from == from {
+                return at as u64;
+            }
+            let after = made.tally;
+            both[on] = after;
+            from = made.from;
+            at = made.at;
+        } else {
+            let told = told_of(both[on], name, list, from, buf, at);
+            if told.from == from {
+                return at as u64;
+            }
+            from = told.from;
+            at = told.at;
         }
-        let after = made.tally;
-        both[on] = after;
-        from = made.from;
-        at = made.at;
     }
     at as u64
 }

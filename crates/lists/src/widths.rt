@@ -91,13 +91,14 @@ pub struct Next {
     pub answer: usize,
 }
 
-// Of the call that stands first in a list, where `name` is its second byte and its answer fits `left` bytes; else 0.
-pub fn next_of(list: &[u8], name: u8, left: usize) -> Next
+// Of the call that stands first in a list, where `name` is its second byte, its kind is from `first` to `last` and its answer fits
+// `left` bytes; else 0.
+pub fn next_of(list: &[u8], name: u8, first: u8, last: u8, left: usize) -> Next
     ensures { λ r. ⌜ WidthOf (now (list .entry)) (r .call) × (r .answer ≤ left) ⌝ }
 {
     let call = call_width(list);
     let answer = answer_width(list);
-    if call < 2 || list[1] != name || left < answer {
+    if call < 2 || list[1] != name || list[0] < first || last < list[0] || left < answer {
         return Next { call: 0, answer: 0 };
     }
     Next {
