@@ -47,19 +47,18 @@ fn made_on(
         if next.call == 0 {
             break;
         }
-        let here = at;
-        from += next.call;
-        at += next.answer;
         let kind = rest[0];
         if kind == OPEN {
-            t = tallies::opened(t, rest, buf, here);
+            t = tallies::opened(t, rest, buf, at);
         } else if kind == ENTER {
-            t = tallies::entered(t, numbers::two(rest, 2), numbers::two(rest, 4), buf, here);
+            t = tallies::entered(t, numbers::two(rest, 2), numbers::two(rest, 4), buf, at);
         } else if kind == WITHDRAW {
-            t = tallies::withdrawn(t, numbers::two(rest, 2), buf, here);
+            t = tallies::withdrawn(t, numbers::two(rest, 2), buf, at);
         } else {
-            t = tallies::joined(t, other, buf, here);
+            t = tallies::joined(t, other, buf, at);
         }
+        from += next.call;
+        at += next.answer;
         if 1 < name {
             break;
         }
