@@ -3,22 +3,24 @@ use Prim.Native.Nat.{ℕ, zero, suc, _+_, _≤_, _<_}
 use native.Mathlib.Omega.{arith}
 use native.Mathlib.Numerals.{add-one}
 use native.Mathlib.Decide.{ℕ-discrete, decLt}
-use mathlib.Core.Bool.{Bool, true, false, _||_}
+use mathlib.Core.Bool.{Bool, true, false, not, _&&_, _||_}
 use mathlib.Core.Path.{_≡_, refl, sym, ap, _∙_}
 use mathlib.Core.List.{List}
 use lib.ListN.{length, getD, set}
 use lib.Dec.{eqb, ltb}
 use lib.Seq.{getD-set-same, getD-set-other, set-getD}
-use borrow.Author.Tests.{eq-eqb, ne-eqb, lt-ltb, le-ltb}
+use borrow.Author.Count.{below-more}
+use borrow.Author.Tests.{eq-eqb, ne-eqb, eqb-false, lt-ltb, le-ltb, not-true}
 use Rattle.rules.specs.Choice.{pick}
 use Rattle.rules.specs.Contents.{Content, Contents, free, holds, put, isHeld, total, one, size}
-use Rattle.rules.proofs.Tests.{or-false}
+use Rattle.rules.proofs.Tests.{and-left, and-right, or-false}
 use Rattle.rules.proofs.ContentLaws.{put-other, put-self, put-put, put-comm, total-put, total-none}
-use Rattle.held_lists.specs.Places.{stored, FoundAt}
+use Rattle.held_lists.specs.Places.{stored, Without, FoundAt}
 
--- the first n places of l have no k
-abbrev pub Without : List ℕ → ℕ → ℕ → Type 0
-Without l n k = (i : ℕ) → i < n → getD l i 0 ≡ k → ⊥
+-- a place more that was looked at, where those before it had no k if their tests say so
+pub without-more : (l : List ℕ) (k n m : ℕ) → m ≡ n + 1 → (b : Bool) → (b ≡ true → Without l n k) → b && not (eqb (getD l n 0) k) ≡ true → Without l m k
+without-more l k n m h b f e i a =
+    below-more (λ j. getD l j 0 ≡ k → ⊥) n (f (and-left b _ e)) (eqb-false (getD l n 0) k (not-true _ (and-right b _ e))) i (omega arith)
 
 -- no two of the first n places are the same
 abbrev pub Apart : List ℕ → ℕ → Type 0

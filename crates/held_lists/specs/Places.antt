@@ -12,10 +12,14 @@ unfoldable pub stored : List ℕ → List ℕ → ℕ → Contents
 stored ks vs zero = none
 stored ks vs (suc n) = put (stored ks vs n) (getD ks n 0) (holds (getD vs n 0))
 
+-- the first n places of l have no k
+abbrev pub Without : List ℕ → ℕ → ℕ → Type 0
+Without l n k = (i : ℕ) → i < n → getD l i 0 ≡ k → ⊥
+
 -- r is the first of the n places of l that has k, or n where none has
 pub record FoundAt (l : List ℕ) (n k r : ℕ) : Type 0 where
   pub within : r ≤ n
-  pub before : (i : ℕ) → i < r → getD l i 0 ≡ k → ⊥
+  pub before : Without l r k
   pub here : r < n → getD l r 0 ≡ k
 
 -- whether one of the first m containers of l is held

@@ -1,19 +1,51 @@
 // The two lists of a tally, of containers and of results, by themselves: which containers are held, and others laid behind them.
 // A number of places counts up to the places that a list has.
 ghost use mathlib.Core.Path.{_≡_};
+ghost use mathlib.Core.Bool.{true};
 ghost use mathlib.Core.List.{List};
-ghost use Prim.Native.Nat.{ℕ, min};
+ghost use Prim.Native.Nat.{ℕ, _+_, _≤_, min};
 ghost use Rattle.rules.specs.Limits.{mostHeld};
 ghost use Rattle.rules.specs.Contents.{isHeld};
-ghost use Rattle.held_lists.specs.Places.{stored, FoundAt, meets, LaidBehind};
+ghost use Rattle.held_lists.specs.Places.{stored, Without, FoundAt, meets, LaidBehind};
 use rules::MOST_HELD;
 
-// The first of the first n places of l that has k, or their number where none has.
+// Whether none of the eight places from `at` on has k.
+fn eight_without(l: &[u16; MOST_HELD], at: usize, k: u16) -> bool
+    requires { ⌜ at + 8 ≤ mostHeld ⌝ }
+    ensures { λ r. ⌜ (r ≡ true → Without (now (l .entry)) at k → Without (now (l .entry)) (at + 8) k) ⌝ }
+{
+    (l[at] != k)
+        & (l[at + 1] != k)
+        & (l[at + 2] != k)
+        & (l[at + 3] != k)
+        & (l[at + 4] != k)
+        & (l[at + 5] != k)
+        & (l[at + 6] != k)
+        & (l[at + 7] != k)
+}
+
+// A place up to which none of the first `end` has k: as many eights of places as have none.
+fn passed_by_eights(l: &[u16; MOST_HELD], end: usize, k: u16) -> usize
+    requires { ⌜ end ≤ mostHeld ⌝ }
+    ensures { λ r. ⌜ (r ≤ end) × Without (now (l .entry)) r k ⌝ }
+{
+    let mut past = 0;
+    while 8 <= end - past {
+        if !eight_without(l, past, k) {
+            return past;
+        }
+        past += 8;
+    }
+    past
+}
+
+// The first of the first n places of l that has k, or their number where none has. Eight places are looked at together, with no branch
+// between them, before single ones are.
 pub fn place_of(l: &[u16; MOST_HELD], n: usize, k: u16) -> usize
     ensures { λ r. ⌜ FoundAt (now (l .entry)) (min n mostHeld) k r ⌝ }
 {
     let end = checks::least(n, MOST_HELD);
-    let mut i = 0;
+    let mut i = passed_by_eights(l, end, k);
     while i < end {
         if l[i] == k {
             return i;

@@ -1,16 +1,15 @@
 -- `held_lists::place_of` meets its promise: none of the places passed has the container. Assumes nothing.
-use Prim.Native.Nat.{ℕ, _≤_, _<_, _-_, min}
-use mathlib.Core.Path.{_≡_}
+use Prim.Native.Nat.{_≤_, _-_, min}
 use native.Mathlib.Omega.{arith}
 use borrow.Author.Count.{below-more}
-use lib.ListN.{getD}
 use Rattle.rules.specs.Limits.{mostHeld}
+use Rattle.held_lists.specs.Places.{Without}
 use borrow.Author.Needs.{needs}
 use Rattle.held_lists.proofs.place_of.Statement.{statement}
 use Rattle.held_lists.proofs.place_of.Tie as tie
 
 abbrev Inv-loop : tie.InvT-loop
-Inv-loop l n k end i₀ i = (i ≤ min n mostHeld) × ((j : ℕ) → j < i → getD l j 0 ≡ k → ⊥)
+Inv-loop l n k end i₀ i = (i ≤ min n mostHeld) × Without l i k
 
 abbrev μ-loop : tie.MeasureT-loop
 μ-loop l n k end i₀ i = mostHeld - i
@@ -27,5 +26,5 @@ returns-2 c = record { within = search needs; before = c .before .loop .inv .1; 
 pub place-of-spec : {M : Type 1} → statement M
 place-of-spec =
     tie.close
-    (tie.spec Inv-loop μ-loop (λ c κs. search needs) (λ c. search needs) (λ c. search needs) (λ c. search needs) returns (λ c. search needs) (λ c. search needs) loop-again
-    returns-2)
+    (tie.spec Inv-loop μ-loop (λ c κs. search needs) (λ c κs. search needs) (λ c. search needs) (λ c. search needs) (λ c. search needs) returns
+    (λ c. search needs) (λ c. search needs) loop-again returns-2)
