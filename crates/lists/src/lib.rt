@@ -10,11 +10,10 @@ mod widths;
 
 use tally::Tally;
 use widths::ENTER;
-use widths::JOIN;
 use widths::OPEN;
 use widths::REPORT;
+use widths::TEXT_WIDTH;
 use widths::WITHDRAW;
-use widths::WRITE;
 
 // What calls on one tally leave: the tally, and the places behind the calls in the list and behind the answers in the buffer.
 struct Made {
@@ -43,8 +42,8 @@ fn made_on(
     let mut at = at;
     while from < list.len() {
         let rest = &list[from..];
-        let next = widths::next_of(rest, name, OPEN, JOIN, buf.len() - at);
-        if next.call == 0 {
+        let width = widths::change_width(rest, name, buf.len() - at);
+        if width == 0 {
             break;
         }
         let kind = rest[0];
@@ -57,8 +56,8 @@ fn made_on(
         } else {
             t = tallies::joined(t, other, buf, at);
         }
-        from += next.call;
-        at += next.answer;
+        from += width;
+        at += 1;
         if 1 < name {
             break;
         }
@@ -83,15 +82,15 @@ fn told_of(t: Tally, name: u8, list: &[u8], from: usize, buf: &mut [u8], at: usi
 {
     let mut from = from;
     let mut at = at;
-    while from < list.len() {
+    while TEXT_WIDTH <= list.len() - from {
         let rest = &list[from..];
-        let next = widths::next_of(rest, name, REPORT, WRITE, buf.len() - at);
-        if next.call == 0 {
+        let answer = widths::text_width(rest, name, buf.len() - at);
+        if answer == 0 {
             break;
         }
-        tallies::texted(t, rest[0], buf, at, next.answer);
-        from += next.call;
-        at += next.answer;
+        tallies::texted(t, rest[0], buf, at, answer);
+        from += TEXT_WIDTH;
+        at += answer;
     }
     Told { from: from, at: at }
 }

@@ -1,5 +1,6 @@
-// The two bytes that a call begins with, and how many bytes the call and its answer take.
+// The two bytes that a call begins with, and how many bytes the call takes, or its answer.
 ghost use Prim.Native.Nat.{_≤_, _<_};
+ghost use lib.ListN.{length};
 ghost use Rattle.lists.specs.Widths.{Wide, WidthOf};
 use crate::numbers;
 
@@ -17,7 +18,10 @@ pub const WRITE: u8 = 6;
 
 const OPEN_WIDTH: usize = 1026;
 
-// By a call's kind, 0 for no kind.
+// Of a report or a write.
+pub const TEXT_WIDTH: usize = 4;
+
+// By the kind of a call that changes a tally, 0 for any other.
 fn kind_width(kind: u8) -> usize
     ensures { λ r. ⌜ Wide kind r ⌝ }
 {
@@ -26,8 +30,6 @@ fn kind_width(kind: u8) -> usize
         ENTER => 6,
         WITHDRAW => 4,
         JOIN => 2,
-        REPORT => 4,
-        WRITE => 4,
         _ => 0,
     }
 }
@@ -56,53 +58,40 @@ pub fn joined_from(name: u8) -> usize
     }
 }
 
-// Of the call that stands first in a list, or 0 where none does.
-fn call_width(list: &[u8]) -> usize
-    ensures { λ r. ⌜ WidthOf (now (list .entry)) r ⌝ }
+// Of the call that stands first in a list, where it changes a tally, `name` is its second byte and `left` bytes have room for its answer,
+// which is one; else 0.
+pub fn change_width(list: &[u8], name: u8, left: usize) -> usize
+    ensures { λ r. ⌜ WidthOf (now (list .entry)) r × (1 ≤ r → 1 ≤ left) ⌝ }
 {
+    if left < 1 {
+        return 0;
+    }
     if list.len() < 2 {
         return 0;
     }
     let kind = list[0];
-    if highest_name(kind) < list[1] {
-        return 0;
-    }
     let width = kind_width(kind);
-    if list.len() < width {
+    if list[1] != name || highest_name(kind) < name || list.len() < width {
         return 0;
     }
     width
 }
 
-// Of the answer to the call that stands first in a list: for a report and a write with the buffer that is lent.
-fn answer_width(list: &[u8]) -> usize {
-    if list.len() < 4 {
-        return 1;
-    }
-    if list[0] < REPORT {
-        return 1;
-    }
-    3 + numbers::two(list, 2) as usize
-}
-
-// How many bytes a call and its answer take.
-pub struct Next {
-    pub call: usize,
-    pub answer: usize,
-}
-
-// Of the call that stands first in a list, where `name` is its second byte, its kind is from `first` to `last` and its answer fits
-// `left` bytes; else 0.
-pub fn next_of(list: &[u8], name: u8, first: u8, last: u8, left: usize) -> Next
-    ensures { λ r. ⌜ WidthOf (now (list .entry)) (r .call) × (r .answer ≤ left) ⌝ }
+// Of the answer to the report or write that stands first in a list, with the buffer that it is lent, where `name` is the call's second
+// byte and the answer fits `left` bytes; else 0.
+pub fn text_width(list: &[u8], name: u8, left: usize) -> usize
+    requires { ⌜ 4 ≤ length (now list) ⌝ }
+    ensures { λ r. ⌜ r ≤ left ⌝ }
 {
-    let call = call_width(list);
-    let answer = answer_width(list);
-    if call < 2 || list[1] != name || list[0] < first || last < list[0] || left < answer {
-        return Next { call: 0, answer: 0 };
+    let kind = list[0];
+    let width = 3 + numbers::two(list, 2) as usize;
+    if list[1] != name
+        || highest_name(kind) < name
+        || kind < REPORT
+        || WRITE < kind
+        || left < width
+    {
+        return 0;
     }
-    Next {
-        call: call,
-        answer: answer,
-    }
+    width
 }
