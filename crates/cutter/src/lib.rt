@@ -58,9 +58,9 @@ fn likely_digits(kind: u8) -> usize
     }
 }
 
-// The same, in few steps where a good line of eight digits or more starts: its first eight bytes and its last eight are digits, some of
-// them perhaps in both, and the end byte follows. The first eight have a branch of their own, before the kind is read: the compiler makes
-// better code of that than of one test.
+// The place of `digits_end`, found in few steps where a good line of eight digits or more starts: its first eight bytes and its last
+// eight are digits, some of them perhaps in both, and the end byte follows. The first eight have a branch of their own, before the kind
+// is read: the compiler makes better code of that than of one test.
 fn line_end(sheet: &[u8], at: usize) -> usize
     requires { ⌜ at ≤ length (now sheet) ⌝ }
     ensures { λ r. ⌜ (r ≡ at + runOf isDigit (drop at (now (sheet .entry)))) × (r ≤ length (now (sheet .entry))) ⌝ }
