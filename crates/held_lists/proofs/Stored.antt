@@ -18,9 +18,9 @@ use Rattle.rules.proofs.ContentLaws.{put-other, put-self, put-put, put-comm, to
 use Rattle.held_lists.specs.Places.{stored, Without, FoundAt}
 
 -- a place more that was looked at, where those before it had no k if their tests say so
-pub without-more : (l : List ℕ) (k n m : ℕ) → m ≡ n + 1 → (b : Bool) → (b ≡ true → Without l n k) → b && not (eqb (getD l n 0) k) ≡ true → Without l m k
-without-more l k n m h b f e i a =
-    below-more (λ j. getD l j 0 ≡ k → ⊥) n (f (and-left b _ e)) (eqb-false (getD l n 0) k (not-true _ (and-right b _ e))) i (omega arith)
+pub without-more : (l : List ℕ) (k n : ℕ) (b : Bool) → (b ≡ true → Without l n k) → b && not (eqb (getD l n 0) k) ≡ true → Without l (n + 1) k
+without-more l k n b f e =
+    below-more (λ j. getD l j 0 ≡ k → ⊥) n (f (and-left b _ e)) (eqb-false (getD l n 0) k (not-true _ (and-right b _ e)))
 
 -- no two of the first n places are the same
 abbrev pub Apart : List ℕ → ℕ → Type 0

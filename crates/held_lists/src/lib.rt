@@ -14,14 +14,13 @@ fn eight_without(l: &[u16; MOST_HELD], at: usize, k: u16) -> bool
     requires { ⌜ at + 8 ≤ mostHeld ⌝ }
     ensures { λ r. ⌜ (r ≡ true → Without (now (l .entry)) at k → Without (now (l .entry)) (at + 8) k) ⌝ }
 {
-    (l[at] != k)
-        & (l[at + 1] != k)
-        & (l[at + 2] != k)
-        & (l[at + 3] != k)
-        & (l[at + 4] != k)
-        & (l[at + 5] != k)
-        & (l[at + 6] != k)
-        & (l[at + 7] != k)
+    let mut clear = true;
+    let mut place = at;
+    while place < at + 8 {
+        clear = clear & (l[place] != k);
+        place += 1;
+    }
+    clear
 }
 
 // A place up to which none of the first `end` has k: as many eights of places as have none.
