@@ -65,12 +65,10 @@ module _ (p : ℕ → Bool) where
       let on = run-steps l (j - 8) 8 (omega arith) f in
       omega (arith, rw first at to, rw last at on, run-stop l j h g)
 
-  -- eight bytes that were looked at one by one
-  pub eight-pass : (l : List ℕ) (i : ℕ) {a b c d e f g h : Bool} → a ≡ p (getD l i 0) → b ≡ p (getD l (i + 1) 0) → c ≡ p (getD l (i + 2) 0)
-      → d ≡ p (getD l (i + 3) 0) → e ≡ p (getD l (i + 4) 0) → f ≡ p (getD l (i + 5) 0) → g ≡ p (getD l (i + 6) 0) → h ≡ p (getD l (i + 7) 0)
-      → a && b && c && d && e && f && g && h ≡ allPass p l i 8
+  -- a look at one byte more
+  pub pass-turn : (l : List ℕ) (i n : ℕ) {ok one : Bool} → ok ≡ allPass p l i n → one ≡ p (getD l (i + n) 0) → ok && one ≡ allPass p l i (n + 1)
   unfolding allPass
-  eight-pass l i p0 p1 p2 p3 p4 p5 p6 p7 = let first : i ≡ i + 0 = omega arith in cc
+  pass-turn l i n f g = rw (add-one n, f, g) refl
 
   -- the run is one, and the only one
   pub run-is : (l : List ℕ) → IsRun p l (runOf p l)

@@ -21,14 +21,13 @@ fn eight_digits(sheet: &[u8], at: usize) -> bool
     requires { ⌜ at + 8 ≤ length (now sheet) ⌝ }
     ensures { λ r. ⌜ r ≡ allPass isDigit (now (sheet .entry)) at 8 ⌝ }
 {
-    is_digit(sheet[at])
-        & is_digit(sheet[at + 1])
-        & is_digit(sheet[at + 2])
-        & is_digit(sheet[at + 3])
-        & is_digit(sheet[at + 4])
-        & is_digit(sheet[at + 5])
-        & is_digit(sheet[at + 6])
-        & is_digit(sheet[at + 7])
+    let mut ok = true;
+    let mut i = 0;
+    while i < 8 {
+        ok = ok & is_digit(sheet[at + i]);
+        i += 1;
+    }
+    ok
 }
 
 // Where the digits that start at `at` end: at the first byte that is none, or at the sheet's end.
