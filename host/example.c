@@ -13,12 +13,12 @@ static void print(const char *call, uint64_t answer)
         printf("%s: refused with %" PRIu64 "\n", call, answer - GELVORIN_REFUSED);
 }
 
-/* A sheet whose results do not stand in the order of their containers. */
+/* A sheet whose results do not stand in the order of their containers; one is weighed. */
 static const char sheet[] = "01000028\n"
                             "020A0A03E8\n"
                             "0305009B\n"
                             "040509264800C8\n"
-                            "0500282648\n"
+                            "0700280042C4000040000000\n"
                             "0500032648\n"
                             "05000C26AC\n"
                             "05000825E4\n"
@@ -52,6 +52,11 @@ int main(void)
     print("mixing within 2.00", gelvorin_mixing(results, 3, 200));
     print("mixing within 1.99", gelvorin_mixing(results, 3, 199));
     print("mixing of one lot", gelvorin_mixing(results, 1, 200));
+    print("weight of 1/32 g", gelvorin_tenths(0x3D000000));
+    print("weight of minus zero", gelvorin_tenths(0x80000000));
+    print("98 g and 2 g, steady", gelvorin_weighed(0, 0x42C40000, 0x40000000));
+    print("98 g and 2 g, unsteady", gelvorin_weighed(1, 0x42C40000, 0x40000000));
+    print("nothing weighed", gelvorin_weighed(0, 0, 0));
     print_text("the sheet judged", gelvorin_judge, length, 4096);
     print_text("the sheet judged into 40 bytes", gelvorin_judge, length, 40);
     print_text("the first 40 bytes of the sheet judged", gelvorin_judge, 40, 4096);

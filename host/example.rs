@@ -5,6 +5,8 @@ extern "C" {
     fn gelvorin_label(labelled: u32, found: u32) -> u64;
     fn gelvorin_pair(first: u32, second: u32) -> u64;
     fn gelvorin_mixing(results: *const u32, count: usize, tolerated: u32) -> u64;
+    fn gelvorin_tenths(bits: u32) -> u64;
+    fn gelvorin_weighed(status: u32, component: u32, remainder: u32) -> u64;
     fn gelvorin_judge(sheet: *const u8, length: usize, buffer: *mut u8, size: usize) -> u64;
     fn gelvorin_rewrite(sheet: *const u8, length: usize, buffer: *mut u8, size: usize) -> u64;
 }
@@ -32,6 +34,16 @@ fn mixing(results: &[u32], tolerated: u32) -> u64 {
     unsafe { gelvorin_mixing(results.as_ptr(), results.len(), tolerated) }
 }
 
+fn tenths(grams: f32) -> u64 {
+    // SAFETY: the call may be made with any number.
+    unsafe { gelvorin_tenths(grams.to_bits()) }
+}
+
+fn weighed(status: u32, component: f32, remainder: f32) -> u64 {
+    // SAFETY: the call may be made with any numbers.
+    unsafe { gelvorin_weighed(status, component.to_bits(), remainder.to_bits()) }
+}
+
 fn judge(sheet: &[u8], buffer: &mut [u8]) -> u64 {
     // SAFETY: pointers and lengths are those of slices that live until the call returns, and do not overlap.
     unsafe { gelvorin_judge(sheet.as_ptr(), sheet.len(), buffer.as_mut_ptr(), buffer.len()) }
@@ -42,12 +54,12 @@ fn rewrite(sheet: &[u8], buffer: &mut [u8]) -> u64 {
     unsafe { gelvorin_rewrite(sheet.as_ptr(), sheet.len(), buffer.as_mut_ptr(), buffer.len()) }
 }
 
-/// A sheet whose results do not stand in the order of their containers.
+/// A sheet whose results do not stand in the order of their containers; one is weighed.
 const SHEET: &str = "01000028
 020A0A03E8
 0305009B
 040509264800C8
-0500282648
+0700280042C4000040000000
 0500032648
 05000C26AC
 05000825E4
@@ -88,6 +100,11 @@ fn main() {
     print("mixing within 2.00", mixing(&results, 200));
     print("mixing within 1.99", mixing(&results, 199));
     print("mixing of one lot", mixing(&results[..1], 200));
+    print("weight of 1/32 g", tenths(1.0 / 32.0));
+    print("weight of minus zero", tenths(-0.0));
+    print("98 g and 2 g, steady", weighed(0, 98.0, 2.0));
+    print("98 g and 2 g, unsteady", weighed(1, 98.0, 2.0));
+    print("nothing weighed", weighed(0, 0.0, 0.0));
     print_text("the sheet judged", judge, SHEET, 4096);
     print_text("the sheet judged into 40 bytes", judge, SHEET, 40);
     print_text("the first 40 bytes of the sheet judged", judge, &SHEET[..40], 4096);

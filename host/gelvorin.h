@@ -46,15 +46,26 @@ uint64_t gelvorin_pair(uint32_t first, uint32_t second);
  * Refused with 17, outside the table: fewer than 2 or more than 60 results; else with 7, result too high: one is above 10000. */
 uint64_t gelvorin_mixing(const uint32_t *results, size_t count, uint32_t tolerated);
 
+/* A weight in tenths of a milligram, from the 32 bits of an IEEE float that is a number of grams, as a balance sends them: the nearest
+ * whole number to what the bits mean exactly, the larger of two equally near.
+ * Refused with 19, bad weight: a sign bit, also that of minus zero, no finite number, or above 1000 g. */
+uint64_t gelvorin_tenths(uint32_t bits);
+
+/* X of a sample that was weighed, in hundredths of a percent: the component's share of both rounded weights, half up. The status is the
+ * balance's (0 steady, 1 unsteady, 2 overload); the weights are the bits of floats, as above.
+ * Refused with 18, not steady: the status is not 0, whatever the weights; else with 19, bad weight: either is one, or both are rounded
+ * to zero. */
+uint64_t gelvorin_weighed(uint32_t status, uint32_t component, uint32_t remainder);
+
 /* Judges a sheet: lays what lotreport prints for it, the five lines of the report or the line REFUSED, at the front of the buffer.
  * Answers the length of the text; the bytes behind it stay as they were. Any bytes are a sheet or have a first fault, which the text
  * names with its line.
  * Refused with 16, buffer short: the buffer is smaller than the text, and stays as it was. */
 uint64_t gelvorin_judge(const uint8_t *sheet, size_t length, uint8_t *buffer, size_t size);
 
-/* Reads a sheet and writes it back: its frames in their order, the results in ascending container order. 2629 bytes are room
- * for every sheet. Answers the length of what was written to the front of the buffer; the bytes behind it stay as they were.
- * Refused with the number of the sheet's first fault (1 to 9, 14), or with 16, buffer short; then the buffer stays as it was. */
+/* Reads a sheet and writes it back: its frames in their order, the results in ascending container order, each as 05, weighed or not.
+ * 2629 bytes are room for every sheet that is written; a sheet that is read has up to 3469. Answers the length of what was written to the front of the buffer; the bytes behind it stay as they were.
+ * Refused with the number of the sheet's first fault (1 to 9, 14, 18, 19), or with 16, buffer short; then the buffer stays as it was. */
 uint64_t gelvorin_rewrite(const uint8_t *sheet, size_t length, uint8_t *buffer, size_t size);
 
 #ifdef __cplusplus

@@ -1,14 +1,16 @@
 // Of each answer its number and its value or length: the one place that host, programs and tests take them from.
 ghost use mathlib.Core.Path.{_≡_};
-ghost use Rattle.rules.specs.Numbers.{numberOf, tells, samplesAnswer, toleranceAnswer, mixingAnswer, hasSize, reportedSize, writtenSize, printedSize};
+ghost use Rattle.rules.specs.Numbers.{numberOf, tells, samplesAnswer, toleranceAnswer, mixingAnswer, weightAnswer, shareAnswer, hasSize, reportedSize, writtenSize, printedSize};
 use rules::Answered;
 use rules::Mixing;
 use rules::Printed;
 use rules::Refusal;
 use rules::Reported;
 use rules::Samples;
+use rules::Share;
 use rules::TextSize;
 use rules::Tolerance;
+use rules::Weight;
 use rules::Written;
 
 // ---- calls that give a number
@@ -51,6 +53,27 @@ pub fn mixing_answer(answer: Mixing) -> Answered
         Mixing::NotMixable => told(Refusal::Accepted, 0),
         Mixing::ResultTooHigh => told(Refusal::ResultTooHigh, 0),
         Mixing::OutsideTable => told(Refusal::OutsideTable, 0),
+    }
+}
+
+// Tenths of a milligram.
+pub fn weight_answer(answer: Weight) -> Answered
+    ensures { λ r. ⌜ r ≡ weightAnswer answer ⌝ }
+{
+    match answer {
+        Weight::Tenths(t) => told(Refusal::Accepted, t),
+        Weight::Bad => told(Refusal::BadWeight, 0),
+    }
+}
+
+// X in hundredths of a percent.
+pub fn share_answer(answer: Share) -> Answered
+    ensures { λ r. ⌜ r ≡ shareAnswer answer ⌝ }
+{
+    match answer {
+        Share::Hundredths(x) => told(Refusal::Accepted, x as u32),
+        Share::NotSteady => told(Refusal::NotSteady, 0),
+        Share::BadWeight => told(Refusal::BadWeight, 0),
     }
 }
 

@@ -2,7 +2,8 @@
 // answered. The calls on a tally name one of two tallies, 1 or 2:
 //
 //     open TALLY ATTRIBUTE CONTAINERS F G n ROWS LOWEST HIGHEST BOUND TOLERATED N CRITICAL+1    enter TALLY CONTAINER X
-//     withdraw TALLY CONTAINER    join TALLY (the other)    report TALLY    write TALLY
+//     weigh TALLY CONTAINER STATUS COMPONENT REMAINDER (float bits as numbers)    withdraw TALLY CONTAINER
+//     join TALLY (the other)    report TALLY    write TALLY
 //     sampling CONTAINERS KILOGRAMS    label LABELLED FOUND    pair FIRST SECOND    mixing TOLERATED X X ..
 mod beside;
 mod lines;
@@ -21,6 +22,9 @@ fn changed(name: &[u8], t: Tally, other: Tally, numbers: &[u32; MOST_NUMBERS]) -
     }
     if check::same(name, b"enter") {
         return tallies::enter(t, numbers);
+    }
+    if check::same(name, b"weigh") {
+        return tallies::weigh(t, numbers);
     }
     if check::same(name, b"withdraw") {
         return tallies::withdraw(t, numbers);

@@ -6,6 +6,7 @@ use rules::Card;
 use rules::Head;
 use rules::Lot;
 use rules::MOST_ROWS;
+use rules::Pans;
 use rules::WIDEST;
 use tally::Outcome;
 use tally::Tally;
@@ -53,6 +54,15 @@ pub fn open(t: Tally, numbers: &[u32; MOST_NUMBERS]) -> Outcome {
 // enter TALLY CONTAINER X
 pub fn enter(t: Tally, numbers: &[u32; MOST_NUMBERS]) -> Outcome {
     tally::enter(t, narrow(numbers[1]), narrow(numbers[2]))
+}
+
+// weigh TALLY CONTAINER STATUS COMPONENT REMAINDER
+pub fn weigh(t: Tally, numbers: &[u32; MOST_NUMBERS]) -> Outcome {
+    let pans = Pans {
+        component: weights::float(numbers[3]),
+        remainder: weights::float(numbers[4]),
+    };
+    tally::weigh(t, narrow(numbers[1]), narrow(numbers[2]), pans)
 }
 
 // withdraw TALLY CONTAINER

@@ -65,6 +65,12 @@ module _ (p : ℕ → Bool) where
       let on = run-steps l (j - 8) 8 (omega arith) f in
       omega (arith, rw first at to, rw last at on, run-stop l j h g)
 
+  -- the same with eight more between them
+  pub run-more-eights : (l : List ℕ) (i j : ℕ) → i + 16 ≤ j → j ≤ i + 24 → j < length l → allPass p l i 8 ≡ true → allPass p l (i + 8) 8 ≡ true
+      → allPass p l (j - 8) 8 ≡ true → p (getD l j 0) ≡ false → j ≡ i + runOf p (drop i l)
+  run-more-eights l i j a b h e m f g =
+      run-eights l (i + 8) j (omega arith) (omega arith) h m f g ∙ sym (run-steps l i 8 (omega arith) e)
+
   -- a look at one byte more
   pub pass-turn : (l : List ℕ) (i n : ℕ) {ok one : Bool} → ok ≡ allPass p l i n → one ≡ p (getD l (i + n) 0) → ok && one ≡ allPass p l i (n + 1)
   unfolding allPass

@@ -6,6 +6,7 @@ ghost use Rattle.rules.specs.Limits.{mostDigits};
 ghost use Rattle.rules.specs.Fields.{isDigit};
 ghost use Rattle.cutter.specs.Runs.{runOf, allPass};
 ghost use Rattle.cutter.specs.Cutting.{CutAt};
+use rules::BALANCE_DIGITS;
 use rules::CARD_DIGITS;
 use rules::RANGE_DIGITS;
 use rules::RESULT_DIGITS;
@@ -53,22 +54,28 @@ fn likely_digits(kind: u8) -> usize
         b'2' => CARD_DIGITS,
         b'4' => RANGE_DIGITS,
         b'5' => RESULT_DIGITS,
+        b'7' => BALANCE_DIGITS,
         _ => 8,
     }
 }
 
 // The place of `digits_end`, found in few steps where a good line of eight digits or more starts: its first eight bytes and its last
-// eight are digits, some of them perhaps in both, and the end byte follows. The first eight have a branch of their own, before the kind
-// is read: the compiler makes better code of that than of one test.
+// eight are digits, some of them perhaps in both, in a line of more than sixteen the second eight too, and the end byte follows. The
+// first eight have a branch of their own, before the kind is read: the compiler makes better code of that than of one test.
 fn line_end(sheet: &[u8], at: usize) -> usize
     requires { ⌜ at ≤ length (now sheet) ⌝ }
     ensures { λ r. ⌜ (r ≡ at + runOf isDigit (drop at (now (sheet .entry)))) × (r ≤ length (now (sheet .entry))) ⌝ }
 {
-    if RANGE_DIGITS < sheet.len() - at {
+    if BALANCE_DIGITS < sheet.len() - at {
         if eight_digits(sheet, at) {
             let end = at + likely_digits(sheet[at + 1]);
             if eight_digits(sheet, end - 8) & (sheet[end] == b'\n') {
-                return end;
+                if end <= at + 16 {
+                    return end;
+                }
+                if eight_digits(sheet, at + 8) {
+                    return end;
+                }
             }
         }
     }

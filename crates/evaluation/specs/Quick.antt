@@ -4,10 +4,13 @@ use mathlib.Core.Bool.{Bool, true, false}
 use mathlib.Core.List.{List, [], _∷_, _++_}
 use lib.Dec.{eqb, leb, ltb}
 use lib.ListN.{length}
+use lib.Ieee.{ofFields, ofBits, toBits}
 use Rattle.rules.specs.Choice.{pick, unless}
 use Rattle.rules.specs.Limits.{leastReported, mostDigits}
-use Rattle.rules.specs.Contents.{holds, put, isHeld}
-use Rattle.rules.specs.Ledger.{Ledger, Judged, containers, judged, enterNumberBy, withContents}
+use Rattle.rules.specs.Contents.{isHeld}
+use Rattle.rules.specs.Floats.{exactOf}
+use Rattle.rules.specs.Weights.{badWeight, tenthsOf, ratioOf, shareOf, weighedOf, weighingOf}
+use Rattle.rules.specs.Ledger.{Ledger, Judged, containers, judged, enterNumberBy, entered, weighNumberBy}
 use Rattle.rules.specs.Text.{byte, decimals, decimal, lastDigits, pointed}
 use Rattle.rules.specs.Cards.{rowsGood, criticalsGood}
 use Rattle.rules.specs.Rounding.{nearestOf}
@@ -15,32 +18,42 @@ use Rattle.rules.specs.Attributes.{isVoid, meanScale}
 use Rattle.rules.specs.Figures.{meanOf, ratio, reportedH, exceeds, toleratedUpto}
 use Rattle.rules.specs.Report.{findingsOf, countLine, meanLine, verdictWord, limitText, valueLine, lotWord, lotVerdictLine, findingsText, reportText}
 use Rattle.rules.specs.Fields.{allDigits, valueOf, numberBehind, number, fieldOf}
-use Rattle.rules.specs.Frames.{lotFrame, cardFrame, criticalFrame, rangeFrame, resultFrame, endFrame, kindFrame, frameOf}
-use Rattle.rules.specs.Stages.{mayStand, isEnded}
-use Rattle.rules.specs.Reading.{State, Next, goes, stops, begun, andThen, onLedger, lotStep, cardStep, criticalStep, rangeStep, endStep, stepOf, atStart}
+use Rattle.rules.specs.Frames.{lotFrame, cardFrame, criticalFrame, rangeFrame, resultFrame, endFrame, balanceFrame, kindFrame, frameOf}
+use Rattle.rules.specs.Stages.{isEnded}
+use Rattle.rules.specs.Reading.{State, Next, goes, stops, resultBy, lotStep, cardStep, criticalStep, rangeStep, endStep, atStart}
 use Rattle.rules.specs.Printing.{refusedLine}
-use Rattle.rules.specs.declared.Stage.the-variants as stage
+use Rattle.rules.specs.declared.Answered.{Answered}
 use Rattle.rules.specs.declared.Frame.{Frame}
+use Rattle.rules.specs.declared.Frame.the-variants as frame
 use Rattle.reading_theorems.specs.Spelling.{Entry, entryOf}
 use Rattle.evaluation.specs.Entries.{gathered, figuresOver}
 
--- ---- an enter on a ledger that is known to hold k results
+-- ---- an enter and a weigh on a ledger that is known to hold k results
+abbrev pub enterNumberAt : ℕ → Ledger → ℕ → ℕ → ℕ
+enterNumberAt k g c x = enterNumberBy (containers g) (isHeld (g .contents c)) k c x
+
 abbrev pub enterAt : ℕ → Ledger → ℕ → ℕ → Judged
-enterAt k g c x = judged (enterNumberBy (containers g) (isHeld (g .contents c)) k c x) g (withContents g (put (g .contents) c (holds x)))
+enterAt k g c x = judged (enterNumberAt k g c x) g (entered g c x)
+
+abbrev pub weighAt : ℕ → Ledger → ℕ → Answered → Judged
+weighAt k g c w = judged (weighNumberBy (g .lot .attribute) (enterNumberAt k g c (w .value)) (w .number)) g (entered g c (w .value))
 
 -- a result frame, with the number of those before it for what is held
 unfoldable pub resultAt : State → ℕ → ℕ → Next
-resultAt s c x =
-    unless (mayStand 5 (s .stage)) (stops 2)
-    (andThen (begun s) λ g. andThen (enterAt (s .results) g c x) λ h. goes (onLedger s stage.Result (s .results + 1) h))
+resultAt s c x = resultBy 5 s (λ g. enterAt (s .results) g c x)
 
--- a frame that has these results: one where it is a result frame
-abbrev pub stepWith : List Entry → Frame → State → Next
-stepWith [] f s = stepOf f s
-stepWith (e ∷ es) f s = resultAt s (e .container) (e .x)
+unfoldable pub balanceAt : State → ℕ → Answered → Next
+balanceAt s c w = resultBy 7 s (λ g. weighAt (s .results) g c w)
 
 abbrev pub stepAt : Frame → State → Next
-stepAt f s = stepWith (entryOf f) f s
+stepAt frame.Bad s = stops 1
+stepAt (frame.Lot a n) s = lotStep s a n
+stepAt (frame.Card f g n) s = cardStep s f g n
+stepAt (frame.Critical k v) s = criticalStep s k v
+stepAt (frame.Range l h b r) s = rangeStep s l h b r
+stepAt (frame.Result c x) s = resultAt s c x
+stepAt (frame.End n) s = endStep s n
+stepAt (frame.Balance c status p) s = balanceAt s c (weighingOf status p)
 
 -- ---- the bytes, one by one
 -- what is printed, or that the bytes so far do not tell
@@ -77,7 +90,7 @@ quickFrom whole sofar (x ∷ xs) s es n =
 -- Of a whole sheet, and of every sheet that begins with these bytes. To unfold one of these is to unfold all that it computes with,
 -- so every definition on the way to the printed bytes that is not an abbrev stands here.
 unfoldable pub quickOf : List ℕ → Evaluated
-unfolding quickFrom resultAt report gathered figuresOver frameOf kindFrame lotFrame cardFrame criticalFrame rangeFrame resultFrame endFrame allDigits fieldOf number numberBehind valueOf lotStep cardStep criticalStep rangeStep endStep rowsGood criticalsGood refusedLine findingsText findingsOf countLine meanLine valueLine lotVerdictLine lotWord limitText verdictWord pointed decimal decimals lastDigits meanOf meanScale isVoid ratio reportedH exceeds toleratedUpto nearestOf
+unfolding quickFrom resultAt balanceAt report gathered figuresOver frameOf kindFrame lotFrame cardFrame criticalFrame rangeFrame resultFrame endFrame balanceFrame allDigits fieldOf number numberBehind valueOf lotStep cardStep criticalStep rangeStep endStep rowsGood criticalsGood refusedLine findingsText findingsOf countLine meanLine valueLine lotVerdictLine lotWord limitText verdictWord pointed decimal decimals lastDigits meanOf meanScale isVoid ratio reportedH exceeds toleratedUpto nearestOf weighedOf shareOf tenthsOf ratioOf badWeight exactOf ofFields ofBits toBits
 quickOf sheet = quickFrom true [] sheet atStart [] 0
 
 unfoldable pub quickBegins : List ℕ → Evaluated

@@ -4,14 +4,16 @@ ghost use mathlib.Core.Bool.{true};
 ghost use Prim.Native.Nat.{_+_, _≤_};
 ghost use lib.ListN.{length};
 ghost use Rattle.rules.specs.Fields.{isDigit, allDigits, valueOf, fieldOf};
-ghost use Rattle.rules.specs.Frames.{lotFrame, cardFrame, criticalFrame, rangeFrame, resultFrame, endFrame, kindFrame, frameOf};
+ghost use Rattle.rules.specs.Frames.{lotFrame, cardFrame, criticalFrame, rangeFrame, resultFrame, endFrame, floatOf, balanceFrame, kindFrame, frameOf};
 ghost use Rattle.frames.specs.Words.{wordAt, valuesAt};
 ghost use Rattle.frames.specs.Promise.{LineAt};
+use rules::BALANCE_DIGITS;
 use rules::CARD_DIGITS;
 use rules::CRITICAL_DIGITS;
 use rules::END_DIGITS;
 use rules::Frame;
 use rules::LOT_DIGITS;
+use rules::Pans;
 use rules::RANGE_DIGITS;
 use rules::RESULT_DIGITS;
 
@@ -149,6 +151,33 @@ fn end_frame(line: &[u8]) -> Frame
     Frame::Bad
 }
 
+// The float of the 8 digits from `from` on: four and four.
+fn float_at(line: &[u8], from: usize) -> f32
+    requires { ⌜ (from + 8 ≤ length (now line)) × (allDigits (now line) ≡ true) ⌝ }
+    ensures { λ r. ⌜ r ≡ floatOf (now (line .entry)) from ⌝ }
+{
+    let high = four(line, from) as u32;
+    let low = four(line, from + 4) as u32;
+    weights::float(high * 65536 + low)
+}
+
+fn balance_frame(line: &[u8]) -> Frame
+    requires { ⌜ allDigits (now line) ≡ true ⌝ }
+    ensures { λ r. ⌜ r ≡ balanceFrame (now (line .entry)) ⌝ }
+{
+    if line.len() == BALANCE_DIGITS {
+        return Frame::Balance {
+            container: four(line, 2),
+            status: two(line, 6),
+            pans: Pans {
+                component: float_at(line, 8),
+                remainder: float_at(line, 16),
+            },
+        };
+    }
+    Frame::Bad
+}
+
 // The frame of a line of digits, by its kind.
 fn kind_frame(kind: u16, line: &[u8]) -> Frame
     requires { ⌜ allDigits (now line) ≡ true ⌝ }
@@ -161,6 +190,7 @@ fn kind_frame(kind: u16, line: &[u8]) -> Frame
         4 => range_frame(line),
         5 => result_frame(line),
         6 => end_frame(line),
+        7 => balance_frame(line),
         _ => Frame::Bad,
     }
 }

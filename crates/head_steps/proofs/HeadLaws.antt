@@ -9,16 +9,16 @@ use Rattle.rules.specs.Choice.{pick, unless}
 use Rattle.rules.specs.Numbers.{numberOf}
 use Rattle.rules.specs.Limits.{mostHeld, leastReported, criticals, mostRows}
 use Rattle.rules.specs.Cards.{criticalFollows, rowGood, withRow, openNumber}
-use Rattle.rules.specs.Ledger.{Ledger, opened, enterOn, freshLedger}
+use Rattle.rules.specs.Ledger.{Ledger, opened, enterOn, weighOn, freshLedger}
 use Rattle.rules.specs.Stages.{mayStand, isOpened}
-use Rattle.rules.specs.Reading.{State, Next, goes, stops, onCard, onLedger, andThen, rangeStep, resultStep, endStep, stepOf}
+use Rattle.rules.specs.Reading.{State, Next, goes, stops, onCard, onLedger, andThen, rangeStep, resultStep, balanceStep, endStep, stepOf}
+use Rattle.rules.specs.declared.Pans.{Pans}
 use Rattle.rules.specs.declared.Refusal.{Refusal}
-use Rattle.rules.specs.declared.Stage.{Stage}
 use Rattle.rules.specs.declared.Stage.the-variants as stage
 use Rattle.rules.specs.declared.Frame.{Frame}
 use Rattle.rules.specs.declared.Frame.the-variants as frame
 use Rattle.rules.proofs.Tests.{false-true, and-left, and-right}
-use Rattle.rules.proofs.EveryStage.{at-every-stage}
+use Rattle.rules.proofs.EveryStage.{end-stands, balance-stands}
 use Rattle.head_steps.specs.declared.Progress.{Progress}
 use Rattle.head_steps.specs.declared.HeadLine.the-variants as head-line
 use Rattle.head_steps.specs.Promise.{Lists, cardRead, stateOf, isResult, beginsResults, HeadRefused, HeadLineIs, justOpened}
@@ -28,19 +28,17 @@ pub refused-with : (e : Refusal) {f : Frame} {p : Progress} {l : Lists} → step
     → HeadLineIs f p l (head-line.Refused e) l
 refused-with e right begins = record { right = right; kept = refl; beginsNot = begins }
 
--- a result and the end may stand at the same places
-end-stands : (s : Stage) → mayStand 6 s ≡ mayStand 5 s
-end-stands = at-every-stage (λ s. mayStand 6 s ≡ mayStand 5 s) refl refl refl refl refl refl refl
-
--- what is so of a result and of the end
-of-results : (P : Frame → Type 0) → ((c x : ℕ) → P (frame.Result c x)) → ((n : ℕ) → P (frame.End n)) → (f : Frame) → isResult f ≡ true → P f
-of-results P r e (frame.Result c x) i = r c x
-of-results P r e (frame.End n) i = e n
-of-results P r e frame.Bad i = false-true i
-of-results P r e (frame.Lot a n) i = false-true i
-of-results P r e (frame.Card f g n) i = false-true i
-of-results P r e (frame.Critical k v) i = false-true i
-of-results P r e (frame.Range l h b t) i = false-true i
+-- what is so of a result, of the end and of a weighed result
+of-results : (P : Frame → Type 0) → ((c x : ℕ) → P (frame.Result c x)) → ((n : ℕ) → P (frame.End n)) → ((c s : ℕ) (w : Pans) → P (frame.Balance c s w))
+    → (f : Frame) → isResult f ≡ true → P f
+of-results P r e b (frame.Result c x) i = r c x
+of-results P r e b (frame.End n) i = e n
+of-results P r e b (frame.Balance c s w) i = b c s w
+of-results P r e b frame.Bad i = false-true i
+of-results P r e b (frame.Lot a n) i = false-true i
+of-results P r e b (frame.Card f g n) i = false-true i
+of-results P r e b (frame.Critical k v) i = false-true i
+of-results P r e b (frame.Range l h t u) i = false-true i
 
 -- N of a good critical frame has a place in the list
 pub critical-below : (last k : ℕ) → criticalFollows last k ≡ true → k < criticals
@@ -57,11 +55,12 @@ unless-pick false e k g h = refl
 module _ (p : Progress) (l : Lists) where
   -- where it may not stand
   pub too-early : (f : Frame) → isResult f ≡ true → mayStand 5 (p .stage) ≡ false → HeadRefused f p l 2 l
-  unfolding resultStep endStep
+  unfolding resultStep balanceStep endStep
   too-early =
       of-results (λ f. mayStand 5 (p .stage) ≡ false → HeadRefused f p l 2 l)
       (λ c x e. record { right = simp e; kept = refl; beginsNot = e })
       (λ n e. record { right = simp (end-stands (p .stage) ∙ e); kept = refl; beginsNot = e })
+      (λ c s w e. record { right = simp (balance-stands (p .stage) ∙ e); kept = refl; beginsNot = e })
 
   -- where it may, the lot is opened, and it is taken as behind a result
   abbrev opening : ℕ
@@ -71,11 +70,12 @@ module _ (p : Progress) (l : Lists) where
   behind f = unless (eqb opening 0) (stops opening) (stepOf f (justOpened (p .lot) (cardRead p l) (p .last)))
 
   pub begin-step : (f : Frame) → isOpened (p .stage) ≡ false → beginsResults f p ≡ true → stepOf f (stateOf p l) ≡ behind f
-  unfolding resultStep endStep
+  unfolding resultStep balanceStep endStep
   begin-step f o i =
       let may = and-right (isResult f) (mayStand 5 (p .stage)) i in
       let opens : (k : Ledger → Next) → _ = λ k. unless-pick (eqb opening 0) (stops opening) k (opened (p .lot) (cardRead p l)) freshLedger in
       of-results (λ g. stepOf g (stateOf p l) ≡ behind g)
       (λ c x. simp (may, o) (opens (λ g. andThen (enterOn g c x) λ h. goes (onLedger (stateOf p l) stage.Result 1 h))))
       (λ n. simp (end-stands (p .stage) ∙ may, o) (opens (λ g. unless (eqb n 0) (stops 14) (goes (onLedger (stateOf p l) stage.End 0 g)))))
+      (λ c s w. simp (balance-stands (p .stage) ∙ may, o) (opens (λ g. andThen (weighOn g c s w) λ h. goes (onLedger (stateOf p l) stage.Result 1 h))))
       f (and-left (isResult f) (mayStand 5 (p .stage)) i)

@@ -47,7 +47,7 @@ stateOf p l =
 abbrev pub atFirst : Progress
 atFirst = record { stage = stage.Start; lot = freshLot; head = freshHead; rows = 0; last = 0 }
 
--- whether a frame is a result or the end
+-- whether a frame is a result, weighed or not, or the end
 abbrev pub isResult : Frame → Bool
 isResult frame.Bad = false
 isResult (frame.Lot a n) = false
@@ -56,6 +56,7 @@ isResult (frame.Critical k v) = false
 isResult (frame.Range l h b r) = false
 isResult (frame.Result c x) = true
 isResult (frame.End n) = true
+isResult (frame.Balance c s p) = true
 
 -- the results begin with a line: a result or the end stands where it may
 abbrev pub beginsResults : Frame → Progress → Bool

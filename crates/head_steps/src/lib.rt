@@ -206,5 +206,10 @@ pub fn head_step(
         } => range_step(p, lowest, highest, bound, tolerated, l, h, b, r),
         Frame::Result { container: _, x: _ } => results_begin(p),
         Frame::End { count: _ } => results_begin(p),
+        Frame::Balance {
+            container: _,
+            status: _,
+            pans: _,
+        } => results_begin(p),
     }
 }

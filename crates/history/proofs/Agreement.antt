@@ -5,7 +5,7 @@ use mathlib.Core.Path.{_≡_, refl, sym, ap, ap₂, _∙_, subst}
 use mathlib.Core.List.{List, _∷_}
 use denote.Ref.{now}
 use Rattle.rules.specs.Numbers.{numberOf}
-use Rattle.rules.specs.Ledger.{Ledger, Judged, freshLedger, openOn, enterOn, withdrawOn, joinOn}
+use Rattle.rules.specs.Ledger.{Ledger, Judged, freshLedger, openOn, enterOn, weighOn, withdrawOn, joinOn}
 use Rattle.rules.specs.Cards.{openNumber}
 use Rattle.rules.specs.declared.Lot.{Lot}
 use Rattle.rules.specs.declared.Card.{Card}
@@ -19,7 +19,7 @@ use Rattle.sheet.specs.declared.Answer.{Answer}
 use Rattle.sheet.specs.Promise.{outcomeOf}
 use Rattle.reading_theorems.proofs.Spelt.{spelled}
 use Rattle.history.specs.Calls.{Calls, judge, ledger, answers}
-use Rattle.history.specs.Run.{Run, begun, taken, opened, entered, withdrawn, joined, read}
+use Rattle.history.specs.Run.{Run, begun, taken, opened, entered, weighed, withdrawn, joined, read}
 use Rattle.history.proofs.Sheets.{made-ledger, made-answers}
 
 -- the tally and the ledger after the same calls
@@ -58,6 +58,10 @@ agrees (opened {l = l} {c = c} {r = r} t u o) =
 agrees (entered {k = k} {x = x} {r = r} t u o) =
     let i = agrees u in
     let e = further r _ (o .right (i .sound) ∙ ap (λ (g : Ledger). enterOn g k x) (i .same)) (i .judged) in
+    record { same = e .0; judged = e .1; sound = o .sound (i .sound) }
+agrees (weighed {k = k} {s = s} {p = p} {r = r} t u o) =
+    let i = agrees u in
+    let e = further r _ (o .right (i .sound) ∙ ap (λ (g : Ledger). weighOn g k s p) (i .same)) (i .judged) in
     record { same = e .0; judged = e .1; sound = o .sound (i .sound) }
 agrees (withdrawn {k = k} {r = r} t u o) =
     let i = agrees u in

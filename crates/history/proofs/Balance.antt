@@ -9,12 +9,14 @@ use borrow.Author.Tests.{eqb-true, eq-eqb, ne-eqb}
 use Rattle.rules.specs.Choice.{pick}
 use Rattle.rules.specs.Contents.{Content, free, holds, put, isHeld, union, total, one}
 use Rattle.rules.specs.Cards.{openNumber}
-use Rattle.rules.specs.Ledger.{Ledger, containers, held, withContents, enterNumber, withdrawNumber, joinNumber, opened}
+use Rattle.rules.specs.Weights.{weighingOf}
+use Rattle.rules.specs.Ledger.{Ledger, containers, held, withContents, enterNumber, entered, weighNumber, withdrawNumber, joinNumber, opened}
 use Rattle.rules.specs.declared.Lot.{Lot}
 use Rattle.rules.specs.declared.Card.{Card}
+use Rattle.rules.specs.declared.Pans.{Pans}
 use Rattle.rules.proofs.ContentLaws.{free-is, one-held, either-held, total-put, total-none, total-union}
-use Rattle.rules.proofs.LedgerLaws.{enter-tells, withdraw-tells, join-tells}
-use Rattle.history.specs.Calls.{Calls, start, opens, enters, withdraws, joins, judge, ledger, Counts, noCounts, counts}
+use Rattle.rules.proofs.LedgerLaws.{enter-tells, weigh-tells, withdraw-tells, join-tells}
+use Rattle.history.specs.Calls.{Calls, start, opens, enters, weighs, withdraws, joins, judge, ledger, Counts, noCounts, oneEntered, counts}
 
 -- a container of the lot
 abbrev OfLot : Ledger → ℕ → Type 0
@@ -40,13 +42,18 @@ balanced-open : (l : Lot) (c : Card) → Balanced (opened l c) noCounts
 balanced-open l c = record { within = λ k e. absurd (true≢false (sym e)); even = omega (arith, total-none one (l .containers) refl) }
 
 balanced-enter : {g : Ledger} {c : Counts} (k x : ℕ) → Balanced g c → enterNumber g k x ≡ 0
-    → Balanced (withContents g (put (g .contents) k (holds x))) (record { entered = c .entered + 1; withdrawn = c .withdrawn; joined = c .joined })
+    → Balanced (entered g k x) (oneEntered c)
 balanced-enter {g} {c} k x f n =
     let h = enter-tells g k x n in
     record {
       within = put-within g k (holds x) (f .within) (λ e. (h .above, h .inside));
       even = omega (arith, f .even, total-put one (containers g) (g .contents) k (holds x) (h .above) (h .inside), ap one (free-is (g .contents k) (h .clear)));
     }
+
+-- an accepted weigh is an accepted enter
+balanced-weigh : {g : Ledger} {c : Counts} (k s : ℕ) (p : Pans) → Balanced g c → weighNumber g k (weighingOf s p) ≡ 0
+    → Balanced (entered g k (weighingOf s p .value)) (oneEntered c)
+balanced-weigh {g} k s p f n = balanced-enter k (weighingOf s p .value) f (weigh-tells g k (weighingOf s p) n .enters)
 
 balanced-withdraw : {g : Ledger} {c : Counts} (k : ℕ) → Balanced g c → withdrawNumber g k ≡ 0
     → Balanced (withContents g (put (g .contents) k free)) (record { entered = c .entered; withdrawn = c .withdrawn + 1; joined = c .joined })
@@ -86,5 +93,6 @@ unfolding judge counts
 balanced start = record { within = λ k e. absurd (true≢false (sym e)); even = omega (arith, total-none one 0 refl) }
 balanced (opens cs l c) = balanced-cases (balanced cs) (λ (n : openNumber l c ≡ 0). balanced-open l c)
 balanced (enters cs k x) = balanced-cases (balanced cs) (balanced-enter k x (balanced cs))
+balanced (weighs cs k s p) = balanced-cases (balanced cs) (balanced-weigh k s p (balanced cs))
 balanced (withdraws cs k) = balanced-cases (balanced cs) (balanced-withdraw k (balanced cs))
 balanced (joins cs ds) = balanced-cases (balanced cs) (balanced-join (balanced cs) (balanced ds))

@@ -4,15 +4,19 @@ use Prim.Native.Nat.{ℕ, zero, suc, _+_, _-_, _/_}
 use mathlib.Core.Path.{_≡_, refl}
 use mathlib.Core.List.{List, [], _∷_, _++_}
 use lib.ListN.{replicate}
+use lib.Ieee.{binary32, ofFields, ofBits, toBits}
 use Rattle.rules.specs.declared.Lot.{Lot}
 use Rattle.rules.specs.declared.Card.{Card}
 use Rattle.rules.specs.Numbers.{refusesText}
 use Rattle.rules.specs.Contents.{total, shared}
+use Rattle.rules.specs.Rounding.{nearestOf}
+use Rattle.rules.specs.Floats.{exactOf}
+use Rattle.rules.specs.Weights.{badWeight, tenthsOf, ratioOf, shareOf, weighedOf}
 use Rattle.rules.specs.Report.{reportOn}
 use Rattle.rules.specs.Writing.{writeOn}
 use Rattle.rules.specs.Limits.{mostHeld, mostRows, criticals}
 use Rattle.rules.specs.Cards.{headOf, cardOf, withRows, rowsGood, criticalsGood, agree, sameRows}
-use Rattle.history.specs.Calls.{Calls, start, opens, enters, withdraws, joins, judge, ledger, answers, counts}
+use Rattle.history.specs.Calls.{Calls, start, opens, enters, weighs, withdraws, joins, judge, ledger, answers, counts}
 
 -- an attribute and the number of containers
 abbrev lotOf : ℕ → ℕ → Lot
@@ -83,6 +87,41 @@ held-number = refl
 last-number : judge (enters (filled opened 0 (mostHeld - 1)) mostHeld 9800) .number ≡ 0
 unfolding judge filled criticalsGood rowsGood total
 last-number = refl
+
+-- a weigh by the bits of its pans: 98 g of the component and 2 g of the remainder; minus zero, which is a bad weight
+abbrev weighsBits : Calls → ℕ → ℕ → ℕ → Calls
+weighsBits cs k s b = weighs cs k s (record { component = ofBits binary32 b; remainder = ofBits binary32 0x4000_0000 })
+
+abbrev good : ℕ
+good = 0x42c4_0000
+
+abbrev bad : ℕ
+bad = 0x8000_0000
+
+-- on a fresh tally 6, whatever the weights; out of turn for germination and counts, before 6
+weigh-fresh : answers (weighsBits (weighsBits start 1 1 bad) 1 0 good) ≡ 6 ∷ 6 ∷ []
+unfolding answers judge weighedOf shareOf tenthsOf ratioOf badWeight exactOf nearestOf ofFields ofBits toBits
+weigh-fresh = refl
+
+weigh-other : answers (weighsBits (weighsBits (opens start (lotOf 1 many) card) 0 1 bad) 3 0 good) ≡ 2 ∷ 2 ∷ 0 ∷ []
+unfolding answers judge criticalsGood rowsGood weighedOf shareOf tenthsOf ratioOf badWeight exactOf nearestOf ofFields ofBits toBits
+weigh-other = refl
+
+-- no such container, then already held, before not steady, before bad weight; an accepted one holds the container
+weigh-numbers : answers (weighsBits (weighsBits (weighsBits (weighsBits (weighsBits (weighsBits opened (many + 1) 1 bad) 3 1 bad) 3 0 bad) 3 0 good) 3 1 bad) 4 2 good)
+    ≡ 18 ∷ 8 ∷ 0 ∷ 19 ∷ 18 ∷ 6 ∷ 0 ∷ []
+unfolding answers judge criticalsGood rowsGood total weighedOf shareOf tenthsOf ratioOf badWeight exactOf nearestOf ofFields ofBits toBits
+weigh-numbers = refl
+
+-- full before not steady
+weigh-full : judge (weighsBits (filled opened 0 mostHeld) (mostHeld + 1) 1 bad) .number ≡ 9
+unfolding judge filled criticalsGood rowsGood total weighedOf shareOf tenthsOf ratioOf badWeight exactOf nearestOf ofFields ofBits toBits
+weigh-full = refl
+
+-- an accepted one counts as entered, a refused one does not
+weigh-counted : counts (weighsBits (weighsBits opened 3 0 good) 4 1 good) ≡ record { entered = 1; withdrawn = 0; joined = 0 }
+unfolding counts judge criticalsGood rowsGood total weighedOf shareOf tenthsOf ratioOf badWeight exactOf nearestOf ofFields ofBits toBits
+weigh-counted = refl
 
 abbrev half : ℕ
 half = mostHeld / 2

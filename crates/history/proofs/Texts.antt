@@ -28,3 +28,12 @@ laid-text t b n a = by (ltb (length b) (length t))
     by : (q : Bool) → wrote n a ≡ pick q (refusesText 16 b) (withText 0 t b) → (take n a ≡ t) × (drop n a ≡ drop n b)
     by true z = absurd (eqb-false 0 16 refl (ap (λ (o : TextAnswer). o .number) z))
     by false z = front-and-rest 0 t b (wrote n a) z
+
+-- and its length
+pub laid-length : (t b : List ℕ) (n : ℕ) (a : List ℕ) → wrote n a ≡ laidIn t b → n ≡ length t
+unfolding laidIn
+laid-length t b n a = by (ltb (length b) (length t))
+  where
+    by : (q : Bool) → wrote n a ≡ pick q (refusesText 16 b) (withText 0 t b) → n ≡ length t
+    by true z = absurd (eqb-false 0 16 refl (ap (λ (o : TextAnswer). o .number) z))
+    by false z = ap (λ (o : TextAnswer). o .size) z

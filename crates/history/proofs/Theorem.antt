@@ -9,7 +9,7 @@ use Rattle.rules.specs.Limits.{leastReported}
 use Rattle.rules.specs.Contents.{Contents, total, size}
 use Rattle.rules.specs.Report.{reportOn}
 use Rattle.rules.specs.Writing.{writeOn}
-use Rattle.rules.specs.Ledger.{Ledger, held, openOn, enterOn, withdrawOn, joinOn}
+use Rattle.rules.specs.Ledger.{Ledger, held, openOn, enterOn, weighOn, withdrawOn, joinOn}
 use Rattle.rules.proofs.Bounds.{opened-head}
 use Rattle.tally.specs.declared.Tally.{Tally}
 use Rattle.tally.specs.View.{view}
@@ -72,6 +72,7 @@ order-is-free cs ds ns ms t u p q e =
     record {
       opens = λ l c r w a b. a .right ∙ (ap (λ (g : Ledger). openOn g l c) s ∙ sym (b .right));
       enters = λ k x r w a b. a .right (i .sound) ∙ (ap (λ (g : Ledger). enterOn g k x) s ∙ sym (b .right (j .sound)));
+      weighs = λ k c p r w a b. a .right (i .sound) ∙ (ap (λ (g : Ledger). weighOn g k c p) s ∙ sym (b .right (j .sound)));
       withdraws = λ k r w a b. a .right (i .sound) ∙ (ap (λ (g : Ledger). withdrawOn g k) s ∙ sym (b .right (j .sound)));
       joins = λ o v f h d r w a b.
           let m = agrees f in

@@ -9,6 +9,7 @@ use denote.Ref.{RefT, now}
 use Rattle.rules.specs.Numbers.{reportedSize, writtenSize}
 use Rattle.rules.specs.declared.Lot.{Lot}
 use Rattle.rules.specs.declared.Card.{Card}
+use Rattle.rules.specs.declared.Pans.{Pans}
 use Rattle.rules.specs.declared.Reported.{Reported}
 use Rattle.rules.specs.declared.Written.{Written}
 use Rattle.tally.specs.declared.Tally.{Tally}
@@ -16,7 +17,7 @@ use Rattle.tally.specs.declared.Outcome.{Outcome}
 use Rattle.tally.specs.Calls.{answer}
 use Rattle.history.specs.Calls.{Calls, ledger}
 use Rattle.history.specs.Run.{Run}
-use Rattle.history.specs.Steps.{OpenStep, EnterStep, WithdrawStep, JoinStep, WriteStep}
+use Rattle.history.specs.Steps.{OpenStep, EnterStep, WeighStep, WithdrawStep, JoinStep, WriteStep}
 
 -- Two calls that write answer alike, r₁ and r₂ with texts of so many bytes: the same refusal, or the same length and the same text.
 -- Every other byte of either buffer stays.
@@ -38,6 +39,7 @@ SameSheet = SameText (λ r. writtenSize r .size)
 pub record AnswersAlike (t u : Tally) : Type 0 where
   pub opens : (l : Lot) (c : Card) (r q : Outcome) → OpenStep t l c r → OpenStep u l c q → answer r ≡ answer q
   pub enters : (k x : ℕ) (r q : Outcome) → EnterStep t k x r → EnterStep u k x q → answer r ≡ answer q
+  pub weighs : (k s : ℕ) (p : Pans) (r q : Outcome) → WeighStep t k s p r → WeighStep u k s p q → answer r ≡ answer q
   pub withdraws : (k : ℕ) (r q : Outcome) → WithdrawStep t k r → WithdrawStep u k q → answer r ≡ answer q
   pub joins : {ds es : Calls} {ms os : List ℕ} (o p : Tally) → Run ds ms o → Run es os p → ledger ds ≡ ledger es → (r q : Outcome) → JoinStep t o r → JoinStep u p q → answer r ≡ answer q
   pub writes : (κ₁ κ₂ : Lft) (b₁ b₂ : RefT (List ℕ)) → length (now b₁) ≡ length (now b₂)

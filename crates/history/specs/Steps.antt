@@ -5,6 +5,7 @@ use base.Fml.{Lft}
 use denote.Ref.{RefT}
 use Rattle.rules.specs.declared.Lot.{Lot}
 use Rattle.rules.specs.declared.Card.{Card}
+use Rattle.rules.specs.declared.Pans.{Pans}
 use Rattle.rules.specs.declared.Reported.{Reported}
 use Rattle.rules.specs.declared.Written.{Written}
 use Rattle.tally.specs.declared.Tally.{Tally}
@@ -12,6 +13,7 @@ use Rattle.tally.specs.declared.Outcome.{Outcome}
 use Rattle.tally.proofs.«open».Reads as open-reads
 use Rattle.tally.proofs.fresh.Reads as fresh-reads
 use Rattle.tally.proofs.enter.Reads as enter-reads
+use Rattle.tally.proofs.weigh.Reads as weigh-reads
 use Rattle.tally.proofs.withdraw.Reads as withdraw-reads
 use Rattle.tally.proofs.join.Reads as join-reads
 use Rattle.report.proofs.report.Reads as report-reads
@@ -29,6 +31,9 @@ OpenStep t l c r = open-reads.Learnt tt (t, (l, (c, tt))) r (t, (l, (c, tt)))
 
 abbrev pub EnterStep : Tally → ℕ → ℕ → Outcome → Type 0
 EnterStep t k x r = enter-reads.Learnt tt (t, (k, (x, tt))) r (t, (k, (x, tt)))
+
+abbrev pub WeighStep : Tally → ℕ → ℕ → Pans → Outcome → Type 0
+WeighStep t k s p r = weigh-reads.Learnt tt (t, (k, (s, (p, tt)))) r (t, (k, (s, (p, tt))))
 
 abbrev pub WithdrawStep : Tally → ℕ → Outcome → Type 0
 WithdrawStep t k r = withdraw-reads.Learnt tt (t, (k, tt)) r (t, (k, tt))

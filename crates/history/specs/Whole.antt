@@ -1,4 +1,4 @@
--- Demand 3: one claim about whole lists of the calls open, enter, withdraw and join, and about the reports of what they end with.
+-- Demand 3: one claim about whole lists of the calls open, enter, weigh, withdraw and join, and about the reports of what they end with.
 use Prim.Native.Nat.{ℕ, _+_}
 use mathlib.Core.Path.{_≡_}
 use mathlib.Core.List.{List}

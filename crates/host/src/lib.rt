@@ -1,6 +1,8 @@
 // The calls for a host program in C or Rust. Each is exported under its own name, takes numbers and lent lists, and answers one
 // number. host/gelvorin.h says for the host's programmer what each answers.
 ghost use mathlib.Core.Path.{_≡_};
+ghost use Rattle.rules.specs.Numbers.{weightAnswer, shareAnswer};
+ghost use Rattle.rules.specs.Weights.{tenthsOf, weighedOf};
 ghost use Rattle.rules.specs.Sampling.{samplingOf};
 ghost use Rattle.rules.specs.Tolerance.{labelOf, pairOf};
 ghost use Rattle.rules.specs.Mixing.{mixingOf};
@@ -8,6 +10,7 @@ ghost use Rattle.rules.specs.Printing.{printOn};
 ghost use Rattle.codes.specs.Codes.{answerCode};
 ghost use Rattle.host.specs.Coding.{codeAndBytes, textCode, rewriteOn};
 use codes::REFUSED;
+use rules::Pans;
 use sheet::Answer;
 
 // The number of primary samples for so many containers of so many whole kg each.
@@ -40,6 +43,26 @@ pub extern "C" fn gelvorin_mixing(results: &[u32], tolerated: u32) -> u64
     ensures { λ r. ⌜ r ≡ answerCode (mixingOf (now (results .entry)) tolerated) ⌝ }
 {
     codes::answer_code(answers::mixing_answer(mixing::mixable(results, tolerated)))
+}
+
+// The weight that 32 float bits mean, a number of grams, in tenths of a milligram.
+#[no_mangle]
+pub extern "C" fn gelvorin_tenths(bits: u32) -> u64
+    ensures { λ r. ⌜ r ≡ answerCode (weightAnswer (tenthsOf bits)) ⌝ }
+{
+    codes::answer_code(answers::weight_answer(weights::tenths(weights::float(bits))))
+}
+
+// X of a sample that was weighed: the balance's status, and the float bits of component and remainder.
+#[no_mangle]
+pub extern "C" fn gelvorin_weighed(status: u32, component: u32, remainder: u32) -> u64
+    ensures { λ r. ⌜ r ≡ answerCode (shareAnswer (weighedOf status component remainder)) ⌝ }
+{
+    let pans = Pans {
+        component: weights::float(component),
+        remainder: weights::float(remainder),
+    };
+    codes::answer_code(answers::share_answer(weights::weighed(status, pans)))
 }
 
 // Judges a sheet: the text that lotreport prints for it.

@@ -9,6 +9,7 @@ pub record Wide (kind r : ℕ) : Type 0 where
   pub opened : kind ≡ 1 → 1026 ≤ r
   pub entered : kind ≡ 2 → 6 ≤ r
   pub withdrawn : kind ≡ 3 → 4 ≤ r
+  pub weighed : kind ≡ 5 → 14 ≤ r
 
 -- the call at the front of l takes r bytes of it, where that is not 0
 pub record WidthOf (l : List ℕ) (r : ℕ) : Type 0 where

@@ -13,6 +13,7 @@ use widths::ENTER;
 use widths::OPEN;
 use widths::REPORT;
 use widths::TEXT_WIDTH;
+use widths::WEIGH;
 use widths::WITHDRAW;
 
 // What calls on one tally leave: the tally, and the places behind the calls in the list and behind the answers in the buffer.
@@ -22,7 +23,7 @@ struct Made {
     at: usize,
 }
 
-// Makes the opens, enters, withdraws and joins of a list from `from` on, as long as their second byte is `name`, and lays their
+// Makes the opens, enters, weighs, withdraws and joins of a list from `from` on, as long as their second byte is `name`, and lays their
 // answers into the buffer from `at` on. So all of them are made on t, and a join joins `other` into it. A tally that was joined into
 // itself is no longer `other`, so the calls end there. One function makes them all, so that the tally is not copied from call to call.
 fn made_on(
@@ -51,6 +52,8 @@ fn made_on(
             t = tallies::opened(t, rest, buf, at);
         } else if kind == ENTER {
             t = tallies::entered(t, numbers::two(rest, 2), numbers::two(rest, 4), buf, at);
+        } else if kind == WEIGH {
+            t = tallies::weighed(t, rest, buf, at);
         } else if kind == WITHDRAW {
             t = tallies::withdrawn(t, numbers::two(rest, 2), buf, at);
         } else {

@@ -5,6 +5,7 @@ ghost use lib.ListN.{length};
 use crate::numbers;
 use crate::opening;
 use crate::widths::REPORT;
+use rules::Pans;
 use rules::TextSize;
 use tally::Tally;
 
@@ -19,6 +20,19 @@ pub fn opened(t: Tally, call: &[u8], buf: &mut [u8], at: usize) -> Tally
 
 pub fn entered(t: Tally, container: u16, x: u16, buf: &mut [u8], at: usize) -> Tally {
     let outcome = tally::enter(t, container, x);
+    let refusal = outcome.refusal;
+    numbers::lay(buf, at, refusal.number() as usize);
+    outcome.tally
+}
+
+pub fn weighed(t: Tally, call: &[u8], buf: &mut [u8], at: usize) -> Tally
+    requires { ⌜ 14 ≤ length (now call) ⌝ }
+{
+    let pans = Pans {
+        component: weights::float(numbers::four(call, 6)),
+        remainder: weights::float(numbers::four(call, 10)),
+    };
+    let outcome = tally::weigh(t, numbers::two(call, 2), numbers::two(call, 4), pans);
     let refusal = outcome.refusal;
     numbers::lay(buf, at, refusal.number() as usize);
     outcome.tally

@@ -12,9 +12,11 @@ pub const WITHDRAW: u8 = 3;
 
 pub const JOIN: u8 = 4;
 
-pub const REPORT: u8 = 5;
+pub const WEIGH: u8 = 5;
 
-pub const WRITE: u8 = 6;
+pub const REPORT: u8 = 6;
+
+pub const WRITE: u8 = 7;
 
 const OPEN_WIDTH: usize = 1026;
 
@@ -30,6 +32,7 @@ fn kind_width(kind: u8) -> usize
         ENTER => 6,
         WITHDRAW => 4,
         JOIN => 2,
+        WEIGH => 14,
         _ => 0,
     }
 }

@@ -6,9 +6,10 @@ use native.Mathlib.Omega.{arith}
 use lib.Dec.{eqb, leb}
 use borrow.Author.Tests.{eqb-true, leb-true, ltb-true}
 use Rattle.rules.specs.Choice.{pick}
-use Rattle.rules.specs.Limits.{mostHeld, leastReported, mostRows, lotBytes, cardBytes, criticalBytes, rangeBytes, resultBytes, endBytes}
+use Rattle.rules.specs.Limits.{mostHeld, leastReported, mostRows, lotBytes, cardBytes, criticalBytes, rangeBytes, balanceBytes, endBytes}
 use Rattle.rules.specs.Contents.{one, total}
 use Rattle.rules.specs.Cards.{criticalFollows, openNumber}
+use Rattle.rules.specs.Weights.{weighingOf}
 use Rattle.rules.specs.Ledger.{held, opened, freshLedger}
 use Rattle.rules.specs.Stages.{mayStand, isOpened}
 use Rattle.rules.specs.Reading.{State, begun, atStart}
@@ -18,8 +19,8 @@ use Rattle.rules.specs.declared.Stage.the-variants as stage
 use Rattle.rules.proofs.Tests.{and-left, and-right}
 use Rattle.rules.proofs.ContentLaws.{total-none}
 use Rattle.rules.proofs.LedgerLaws.{enter-tells, enter-held}
-use Rattle.rules.proofs.Taken.{Taken, lot, card, critical, range, result, ends}
-use Rattle.reading_theorems.specs.Lengths.{longest}
+use Rattle.rules.proofs.Taken.{Taken, lot, card, critical, range, result, balance, ends}
+use Rattle.reading_theorems.specs.Lengths.{longestRead}
 use Rattle.reading_theorems.proofs.StageLaws.{unopened}
 use Rattle.reading_theorems.proofs.Fitting.{Fits}
 
@@ -38,12 +39,12 @@ stageRoom stage.End = 0
 criticalsFree : ℕ → ℕ
 criticalsFree last = mostHeld - max (leastReported - 1) last
 
--- of critical values, rows and results as many as are free
+-- of critical values, rows and results as many as are free, each result with the bytes of a weighed one
 headRoom : State → ℕ
 headRoom s = stageRoom (s .stage) + criticalBytes * criticalsFree (s .last) + rangeBytes * (mostRows - s .card .rows)
 
 pub room : State → ℕ
-room s = headRoom s + resultBytes * (mostHeld - held (begun s .ledger))
+room s = headRoom s + balanceBytes * (mostHeld - held (begun s .ledger))
 
 before-lot : (t : Stage) → mayStand 1 t ≡ true → stageRoom t ≡ lotBytes + (cardBytes + endBytes)
 unfolding stageRoom
@@ -114,8 +115,12 @@ falls n s u w (range t g few) =
 falls n s u w (result {c} {x} t b e) =
     let g = begun s .ledger in
     omega (arith, w, behind-card 5 (s .stage) (omega arith) t, enter-tells g c x e .room, enter-held g c x e)
+falls n s u w (balance {c} {status} {p} t b a v e) =
+    let g = begun s .ledger in
+    let x = weighingOf status p .value in
+    omega (arith, w, behind-card 7 (s .stage) (omega arith) t, enter-tells g c x e .room, enter-held g c x e)
 falls n s u w (ends t b e) = omega (arith, w, behind-card 6 (s .stage) (omega arith) t)
 
-pub room-start : room atStart ≡ longest
+pub room-start : room atStart ≡ longestRead
 unfolding room headRoom stageRoom criticalsFree total
 room-start = refl

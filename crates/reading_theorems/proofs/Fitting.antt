@@ -10,9 +10,9 @@ use lib.Dec.{eqb, leb}
 use lib.ListN.{length}
 use borrow.Author.Tests.{eqb-true}
 use Rattle.rules.specs.Choice.{pick}
-use Rattle.rules.specs.Limits.{widest, lotDigits, cardDigits, criticalDigits, rangeDigits, resultDigits, endDigits}
+use Rattle.rules.specs.Limits.{widest, lotDigits, cardDigits, criticalDigits, rangeDigits, resultDigits, endDigits, balanceDigits}
 use Rattle.rules.specs.Fields.{allDigits, fieldOf}
-use Rattle.rules.specs.Frames.{sized, lotFrame, cardFrame, criticalFrame, rangeFrame, resultFrame, endFrame, kindFrame, frameOf}
+use Rattle.rules.specs.Frames.{sized, lotFrame, cardFrame, criticalFrame, rangeFrame, resultFrame, endFrame, floatOf, balanceFrame, kindFrame, frameOf}
 use Rattle.rules.specs.declared.Frame.{Frame}
 use Rattle.rules.specs.declared.Frame.the-variants as frame
 use Rattle.rules.proofs.FieldLaws.{field-lt}
@@ -26,6 +26,7 @@ Fits n (frame.Critical k v) = (n ≡ criticalDigits) × (v ≤ widest)
 Fits n (frame.Range l h b r) = (n ≡ rangeDigits) × (r ≤ widest)
 Fits n (frame.Result c x) = n ≡ resultDigits
 Fits n (frame.End c) = n ≡ endDigits
+Fits n (frame.Balance c s p) = n ≡ balanceDigits
 
 either : (n : ℕ) (b : Bool) (f g : Frame) → Fits n f → Fits n g → Fits n (pick b f g)
 either n true f g p q = p
@@ -42,7 +43,7 @@ wide : (d : List ℕ) (a : ℕ) → fieldOf d a 4 ≤ widest
 wide d a = omega (arith, field-lt d a 4)
 
 pub frame-fits : (d : List ℕ) → Fits (length d) (frameOf d)
-unfolding frameOf kindFrame lotFrame cardFrame criticalFrame rangeFrame resultFrame endFrame
+unfolding frameOf kindFrame lotFrame cardFrame criticalFrame rangeFrame resultFrame endFrame balanceFrame
 frame-fits d =
     let k = fieldOf d 0 2 in
     let n = length d in
@@ -52,5 +53,7 @@ frame-fits d =
     (either n (eqb k 3) (criticalFrame d) _ (of-size d criticalDigits (frame.Critical (fieldOf d 2 2) (fieldOf d 4 4)) (λ e. (e, wide d 4)))
     (either n (eqb k 4) (rangeFrame d) _ (of-size d rangeDigits (frame.Range (fieldOf d 2 2) (fieldOf d 4 2) (fieldOf d 6 4) (fieldOf d 10 4)) (λ e. (e, wide d 10)))
     (either n (eqb k 5) (resultFrame d) _ (of-size d resultDigits (frame.Result (fieldOf d 2 4) (fieldOf d 6 4)) (λ e. e))
-    (either n (eqb k 6) (endFrame d) frame.Bad (of-size d endDigits (frame.End (fieldOf d 2 2)) (λ e. e)) tt))))))
+    (either n (eqb k 6) (endFrame d) _ (of-size d endDigits (frame.End (fieldOf d 2 2)) (λ e. e))
+    (either n (eqb k 7) (balanceFrame d) frame.Bad
+    (of-size d balanceDigits (frame.Balance (fieldOf d 2 4) (fieldOf d 6 2) (record { component = floatOf d 8; remainder = floatOf d 16 })) (λ e. e)) tt)))))))
     tt

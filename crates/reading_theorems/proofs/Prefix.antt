@@ -10,10 +10,10 @@ use lib.ListN.{length, take, length-append}
 use lib.Seq.{take-nil}
 use borrow.Author.Tests.{ne-eqb}
 use Rattle.rules.specs.Choice.{pick}
-use Rattle.rules.specs.Limits.{lotDigits, cardDigits, rangeDigits, endDigits, mostDigits, mostBytes}
+use Rattle.rules.specs.Limits.{lotDigits, cardDigits, rangeDigits, endDigits, balanceDigits, mostDigits, mostBytes}
 use Rattle.rules.specs.Text.{byte}
 use Rattle.rules.specs.Lines.{ended, cutFrom, linesOf}
-use Rattle.rules.specs.Frames.{lotFrame, cardFrame, criticalFrame, rangeFrame, resultFrame, endFrame, kindFrame, frameOf}
+use Rattle.rules.specs.Frames.{lotFrame, cardFrame, criticalFrame, rangeFrame, resultFrame, endFrame, balanceFrame, kindFrame, frameOf}
 use Rattle.rules.specs.Reading.{State, Next, goes, stops, SheetOutcome, refused, stepOf, after, readFrom, atStart, readOf}
 use Rattle.rules.specs.Printing.{printed, printedFor}
 use Rattle.rules.specs.declared.Frame.the-variants.{Bad}
@@ -28,13 +28,14 @@ bad-either true = refl
 bad-either false = refl
 
 long-bad : (d : List ℕ) → mostDigits < length d → frameOf d ≡ Bad
-unfolding frameOf kindFrame lotFrame cardFrame criticalFrame rangeFrame resultFrame endFrame
+unfolding frameOf kindFrame lotFrame cardFrame criticalFrame rangeFrame resultFrame endFrame balanceFrame
 long-bad d h =
     simp (
       ne-eqb (length d) lotDigits (λ e. omega arith),
       ne-eqb (length d) cardDigits (λ e. omega arith),
       ne-eqb (length d) rangeDigits (λ e. omega arith),
       ne-eqb (length d) endDigits (λ e. omega arith),
+      ne-eqb (length d) balanceDigits (λ e. omega arith),
       bad-either,
     )
 

@@ -22,7 +22,7 @@ use Rattle.rules.specs.declared.Stage.{Stage}
 use Rattle.rules.specs.declared.Frame.{Frame}
 use Rattle.rules.proofs.Tests.{and-both, and-left, and-right}
 use Rattle.rules.proofs.CardLaws.{full-fresh, full-head, full-critical, full-row}
-use Rattle.rules.proofs.Taken.{Taken, lot, card, critical, range, result, ends}
+use Rattle.rules.proofs.Taken.{Taken, lot, card, critical, range, result, balance, ends}
 use Rattle.reading_theorems.proofs.StageLaws.{kindBefore, follows}
 use Rattle.reading_theorems.proofs.Accepted.{Leads, nothing, line}
 use Rattle.reading_theorems.proofs.Falling.{critical-rises}
@@ -170,6 +170,7 @@ ready-taken m s u w r (range {l} {h} {b} {r = x} t q few) =
       narrow = narrow-set (c .tolerated) (c .rows) x (omega (arith, r .full .tolerated)) (w .1) (r .narrow);
     }
 ready-taken m s u w r (result t b e) = ready-ledger s _ _ _ r (follows 5 (s .stage) t .later (omega arith))
+ready-taken m s u w r (balance t b a v e) = ready-ledger s _ _ _ r (follows 7 (s .stage) t .later (omega arith))
 ready-taken m s u w r (ends t b e) = ready-ledger s _ _ _ r (follows 6 (s .stage) t .later (omega arith))
 
 -- lines that lead on lead from a ready state to a ready one

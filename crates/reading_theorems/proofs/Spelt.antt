@@ -1,7 +1,7 @@
 -- A sheet that is read was made by an open and its enters: those that its lines say. Assumes nothing.
 use mathlib.Core.Path.{_≡_, refl, sym, ap, _∙_}
 use mathlib.Core.Bool.{true, false, true≢false}
-use mathlib.Core.List.{List, [], _++_, append-nil, append-assoc}
+use mathlib.Core.List.{List, [], _∷_, _++_, append-nil, append-assoc}
 use Prim.Native.Nat.{ℕ, _+_}
 use native.Mathlib.Omega.{arith}
 use lib.ListN.{length, length-append}
@@ -9,14 +9,16 @@ use Rattle.rules.specs.Contents.{one}
 use Rattle.rules.specs.Stages.{isOpened, isEnded}
 use Rattle.rules.specs.Lines.{Line, linesOf}
 use Rattle.rules.specs.Frames.{frameOf}
-use Rattle.rules.specs.Ledger.{Ledger, held}
-use Rattle.rules.specs.Reading.{State, accepted, begun, atStart, readOf}
+use Rattle.rules.specs.Weights.{weighingOf}
+use Rattle.rules.specs.Ledger.{Ledger, held, enterNumber, enterOn}
+use Rattle.rules.specs.Reading.{State, accepted, onLedger, begun, atStart, readOf}
 use Rattle.rules.specs.declared.Lot.{Lot}
 use Rattle.rules.specs.declared.Card.{Card}
+use Rattle.rules.specs.declared.Stage.the-variants as stage
 use Rattle.rules.specs.declared.Frame.{Frame}
 use Rattle.rules.proofs.ContentLaws.{total-none}
 use Rattle.rules.proofs.LedgerLaws.{enter-held}
-use Rattle.rules.proofs.Taken.{Taken, lot, card, critical, range, result, ends}
+use Rattle.rules.proofs.Taken.{Taken, lot, card, critical, range, result, balance, ends}
 use Rattle.reading_theorems.specs.Spelling.{Entry, Made, opens, enters, entryOf, entriesIn, entriesOf, lotBy, cardBy, lotIn, cardIn, Spelled}
 use Rattle.reading_theorems.proofs.StageLaws.{unopened, ended-opened}
 use Rattle.reading_theorems.proofs.Accepted.{Leads, nothing, line, AcceptedFrom, accepted-sheet}
@@ -48,17 +50,23 @@ none-yet : (s u : State) (es : List Entry) → ResultsSoFar s es → isOpened (s
     → ResultsSoFar u (es ++ [])
 none-yet s u es h a b e = rw (h .unopened a) (none-before u b (e ∙ sym (rw (h .unopened a) at (h .count))))
 
-pub results-taken : {f : Frame} (s u : State) (es : List Entry) → ResultsSoFar s es → Taken s f u → ResultsSoFar u (es ++ entryOf f)
-results-taken s u es h (lot t g) = none-yet s u es h (unopened 1 (s .stage) (omega arith) t) refl refl
-results-taken s u es h (card t g) = none-yet s u es h (unopened 2 (s .stage) (omega arith) t) refl refl
-results-taken s u es h (critical t g) = none-yet s u es h (unopened 3 (s .stage) (omega arith) t) refl refl
-results-taken s u es h (range t g few) = none-yet s u es h (unopened 4 (s .stage) (omega arith) t) refl refl
-results-taken s u es h (result {c} {x} t b e) =
+-- a result, weighed or not
+one-more : (s : State) (es : List Entry) → ResultsSoFar s es → (c x : ℕ) → begun s .number ≡ 0 → enterNumber (begun s .ledger) c x ≡ 0
+    → ResultsSoFar (onLedger s stage.Result (s .results + 1) (enterOn (begun s .ledger) c x .ledger)) (es ++ (record { container = c; x = x } ∷ []))
+one-more s es h c x b e =
     record {
       made = λ q. enters c x (h .made b) e;
       unopened = λ i. absurd (true≢false i);
       count = rw length-append (ap (λ (n : ℕ). n + 1) (h .count));
     }
+
+pub results-taken : {f : Frame} (s u : State) (es : List Entry) → ResultsSoFar s es → Taken s f u → ResultsSoFar u (es ++ entryOf f)
+results-taken s u es h (lot t g) = none-yet s u es h (unopened 1 (s .stage) (omega arith) t) refl refl
+results-taken s u es h (card t g) = none-yet s u es h (unopened 2 (s .stage) (omega arith) t) refl refl
+results-taken s u es h (critical t g) = none-yet s u es h (unopened 3 (s .stage) (omega arith) t) refl refl
+results-taken s u es h (range t g few) = none-yet s u es h (unopened 4 (s .stage) (omega arith) t) refl refl
+results-taken s u es h (result {c} {x} t b e) = one-more s es h c x b e
+results-taken s u es h (balance {c} {status} {p} t b a v e) = one-more s es h c (weighingOf status p .value) b e
 results-taken s u es h (ends t b e) =
     rw append-nil (record { made = λ q. h .made b; unopened = λ i. absurd (true≢false i); count = h .count })
 
@@ -87,6 +95,7 @@ lot-taken (card t g) = refl
 lot-taken (critical t g) = refl
 lot-taken (range t g few) = refl
 lot-taken (result t b e) = refl
+lot-taken (balance t b a v e) = refl
 lot-taken (ends t b e) = refl
 
 card-taken : {f : Frame} {s u : State} → Taken s f u → u .card ≡ cardBy f (s .card)
@@ -95,6 +104,7 @@ card-taken (card t g) = refl
 card-taken (critical t g) = refl
 card-taken (range t g few) = refl
 card-taken (result t b e) = refl
+card-taken (balance t b a v e) = refl
 card-taken (ends t b e) = refl
 
 lot-led : {ls : List Line} (s v : State) → Leads s ls v → v .lot ≡ lotIn (s .lot) ls

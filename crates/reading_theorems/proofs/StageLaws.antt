@@ -5,7 +5,7 @@ use Prim.Native.Nat.{ℕ, _+_, _≤_, _<_}
 use native.Mathlib.Omega.{arith}
 use lib.Dec.{eqb, leb}
 use borrow.Author.Tests.{eqb-true, lt-leb}
-use Rattle.rules.specs.Stages.{mayStand, isOpened, isEnded}
+use Rattle.rules.specs.Stages.{isOfResults, mayStand, isOpened, isEnded}
 use Rattle.rules.specs.declared.Stage.{Stage}
 use Rattle.rules.specs.declared.Stage.the-variants as stage
 
@@ -53,14 +53,17 @@ module _ (k : ℕ) where
       by true q e = omega (arith, eqb-true k j q)
       by false q e = f e
 
-  from-5 : eqb k 5 || eqb k 6 ≡ true → 5 ≤ k
-  from-5 e = from 5 (eqb k 6) (λ q. omega (arith, eqb-true k 6 q)) e
+  from-6 : eqb k 6 || eqb k 7 ≡ true → 6 ≤ k
+  from-6 e = from 6 (eqb k 7) (λ q. omega (arith, eqb-true k 7 q)) e
 
-  from-4 : eqb k 4 || (eqb k 5 || eqb k 6) ≡ true → 4 ≤ k
-  from-4 e = from 4 (eqb k 5 || eqb k 6) (λ q. omega (arith, from-5 q)) e
+  from-5 : isOfResults k ≡ true → 5 ≤ k
+  from-5 e = from 5 (eqb k 6 || eqb k 7) (λ q. omega (arith, from-6 q)) e
 
-  from-3 : eqb k 3 || (eqb k 4 || (eqb k 5 || eqb k 6)) ≡ true → 3 ≤ k
-  from-3 e = from 3 (eqb k 4 || (eqb k 5 || eqb k 6)) (λ q. omega (arith, from-4 q)) e
+  from-4 : eqb k 4 || isOfResults k ≡ true → 4 ≤ k
+  from-4 e = from 4 (isOfResults k) (λ q. omega (arith, from-5 q)) e
+
+  from-3 : eqb k 3 || (eqb k 4 || isOfResults k) ≡ true → 3 ≤ k
+  from-3 e = from 3 (eqb k 4 || isOfResults k) (λ q. omega (arith, from-4 q)) e
 
   headed : (j : ℕ) → 2 ≤ j → j ≤ k → 3 ≤ k → Follows k j
   headed j a b c = record { first = λ h. absurd (omega arith); later = λ h. a; rising = b }

@@ -8,17 +8,21 @@ use Rattle.rules.specs.Ledger.{Ledger}
 use Rattle.rules.specs.Reading.{accepted, readOf}
 use Rattle.rules.specs.Printing.{printedFor}
 
--- the longest sheet
-abbrev pub longest : ℕ
-longest = 2629
+-- the longest sheet that is written
+abbrev pub longestWritten : ℕ
+longestWritten = 2629
 
--- as many bytes as the longest sheet has, and those of one line more, which makes it a faulty one
+-- the longest sheet that is accepted: each of its results is weighed
+abbrev pub longestRead : ℕ
+longestRead = 3469
+
+-- as many bytes as the longest accepted sheet has, and those of one line more, which makes it a faulty one
 abbrev pub bytesThatDecide : ℕ
-bytesThatDecide = longest + mostBytes
+bytesThatDecide = longestRead + mostBytes
 
 -- no sheet that is accepted is longer
 abbrev pub NoneLonger : Type 0
-NoneLonger = (sheet : List ℕ) (g : Ledger) (lines : ℕ) → readOf sheet ≡ accepted g lines → length sheet ≤ longest
+NoneLonger = (sheet : List ℕ) (g : Ledger) (lines : ℕ) → readOf sheet ≡ accepted g lines → length sheet ≤ longestRead
 
 -- what is printed for the first bytes of an input is printed for all of it, however many follow
 abbrev pub PrefixDecides : Type 0

@@ -5,6 +5,7 @@ use Prim.Native.Nat.{ℕ}
 use Rattle.rules.specs.Lines.{Line, ended, unended, linesOf}
 use Rattle.rules.specs.Frames.{frameOf}
 use Rattle.rules.specs.Cards.{headOf, withHead, withCritical, withRow, freshLot, freshCard}
+use Rattle.rules.specs.Weights.{weighingOf}
 use Rattle.rules.specs.Ledger.{Ledger, openOn, enterOn, freshLedger}
 use Rattle.rules.specs.declared.Lot.{Lot}
 use Rattle.rules.specs.declared.Card.{Card}
@@ -22,7 +23,7 @@ pub data Made (l : Lot) (c : Card) : List Entry → Ledger → Type 0 where
   opens : openOn freshLedger l c .number ≡ 0 → Made l c [] (openOn freshLedger l c .ledger)
   enters : {es : List Entry} {g : Ledger} (k x : ℕ) → Made l c es g → enterOn g k x .number ≡ 0 → Made l c (es ++ (record { container = k; x = x } ∷ [])) (enterOn g k x .ledger)
 
--- the results of a sheet: its 05 frames, in their order
+-- the results of a sheet: its 05 frames and its 07 frames with the X that was weighed, in their order
 abbrev pub entryOf : Frame → List Entry
 entryOf frame.Bad = []
 entryOf (frame.Lot a n) = []
@@ -31,6 +32,7 @@ entryOf (frame.Critical k v) = []
 entryOf (frame.Range l h b r) = []
 entryOf (frame.Result c x) = record { container = c; x = x } ∷ []
 entryOf (frame.End n) = []
+entryOf (frame.Balance c s p) = record { container = c; x = weighingOf s p .value } ∷ []
 
 unfoldable pub entriesIn : List Line → List Entry
 entriesIn [] = []
@@ -49,6 +51,7 @@ lotBy (frame.Critical k v) l = l
 lotBy (frame.Range lo hi b r) l = l
 lotBy (frame.Result c x) l = l
 lotBy (frame.End n) l = l
+lotBy (frame.Balance k s p) l = l
 
 -- its card: the head of its 02 frame, and what its 03 and 04 frames add
 abbrev pub cardBy : Frame → Card → Card
@@ -59,6 +62,7 @@ cardBy (frame.Critical k v) c = withCritical c k v
 cardBy (frame.Range lo hi b r) c = withRow c lo hi b r
 cardBy (frame.Result k x) c = c
 cardBy (frame.End n) c = c
+cardBy (frame.Balance k s p) c = c
 
 unfoldable pub lotIn : Lot → List Line → Lot
 lotIn l [] = l

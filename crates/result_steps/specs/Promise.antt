@@ -5,18 +5,20 @@ use mathlib.Core.List.{List}
 use Prim.Native.Nat.{ℕ, _+_}
 use lib.Dec.{eqb}
 use lib.ListN.{set}
-use Rattle.rules.specs.Choice.{unless}
+use Rattle.rules.specs.Choice.{pick, unless}
 use Rattle.rules.specs.Numbers.{numberOf}
 use Rattle.rules.specs.Stages.{mayStand, isOpened}
+use Rattle.rules.specs.Weights.{weighingOf}
 use Rattle.rules.specs.Reading.{State, goes, stops, stepOf}
 use Rattle.rules.specs.declared.Lot.{Lot}
 use Rattle.rules.specs.declared.Card.{Card}
+use Rattle.rules.specs.declared.Refusal.{Refusal}
 use Rattle.rules.specs.declared.Stage.{Stage}
 use Rattle.rules.specs.declared.Stage.the-variants as stage
 use Rattle.rules.specs.declared.Frame.{Frame}
 use Rattle.rules.specs.declared.Frame.the-variants as frame
 use Rattle.tally.specs.View.{tallyOf, view}
-use Rattle.tally.specs.Calls.{Sound, enterInNumber}
+use Rattle.tally.specs.Calls.{Sound, enterInNumber, weighInNumber}
 use Rattle.head_steps.specs.Promise.{isResult}
 use Rattle.result_steps.specs.declared.Results.{Results}
 use Rattle.result_steps.specs.declared.ResultLine.{ResultLine}
@@ -30,6 +32,10 @@ openedState l c last p ks vs =
 abbrev pub resultsAt : Stage → ℕ → Results
 resultsAt s n = record { stage = s; held = n }
 
+-- what a result comes to that the call on the lists answers with e, where n are held before it
+abbrev pub storedAs : Refusal → ℕ → ResultLine
+storedAs e n = pick (eqb (numberOf e) 0) (result-line.Taken (resultsAt stage.Result (n + 1))) (result-line.Refused e)
+
 -- where the results begin: nothing is held
 abbrev pub atResults : Results
 atResults = resultsAt stage.Result 0
@@ -40,11 +46,11 @@ pub data LineOutcome : Type 0 where
   taken : Results → List ℕ → List ℕ → LineOutcome
   refused : ℕ → LineOutcome
 
--- 05: an enter on the lists
-abbrev pub resultOn : Lot → Results → List ℕ → List ℕ → ℕ → ℕ → LineOutcome
-resultOn l p ks vs k x =
-    unless (mayStand 5 (p .stage)) (refused 2)
-    (unless (eqb (enterInNumber l ks vs (p .held) k x) 0) (refused (enterInNumber l ks vs (p .held) k x))
+-- a result of this kind, x for container k, which the call on the lists answers with m
+abbrev pub resultOn : ℕ → Results → List ℕ → List ℕ → ℕ → ℕ → ℕ → LineOutcome
+resultOn kind p ks vs k x m =
+    unless (mayStand kind (p .stage)) (refused 2)
+    (unless (eqb m 0) (refused m)
     (taken (resultsAt stage.Result (p .held + 1)) (set ks (p .held) k) (set vs (p .held) x)))
 
 -- 06: the number of results
@@ -61,8 +67,10 @@ lineOn (frame.Lot a n) l p ks vs = refused 2
 lineOn (frame.Card f g n) l p ks vs = refused 2
 lineOn (frame.Critical k v) l p ks vs = refused 2
 lineOn (frame.Range lo hi b r) l p ks vs = refused 2
-lineOn (frame.Result k x) l p ks vs = resultOn l p ks vs k x
+lineOn (frame.Result k x) l p ks vs = resultOn 5 p ks vs k x (enterInNumber l ks vs (p .held) k x)
 lineOn (frame.End n) l p ks vs = endOn p ks vs n
+lineOn (frame.Balance k s w) l p ks vs =
+    resultOn 7 p ks vs k (weighingOf s w .value) (weighInNumber l ks vs (p .held) k (weighingOf s w))
 
 -- ---- the promise: that on any lists, and the step of the reading on those that the reader makes
 

@@ -1,12 +1,16 @@
-// What a line of a sheet does once the lot is opened: a result is entered, and the end counts them.
+// What a line of a sheet does once the lot is opened: a result is entered or weighed, and the end counts them.
+ghost use mathlib.Core.Path.{_≡_};
 ghost use mathlib.Core.List.{List};
-ghost use Prim.Native.Nat.{ℕ};
+ghost use Prim.Native.Nat.{ℕ, _<_};
+ghost use Rattle.rules.specs.Limits.{mostHeld};
+ghost use Rattle.rules.specs.Numbers.{numberOf};
 ghost use Rattle.rules.specs.declared.Lot.{Lot};
 ghost use Rattle.rules.specs.declared.Frame.the-variants as frame;
-ghost use Rattle.result_steps.specs.Promise.{ResultLineIs};
+ghost use Rattle.result_steps.specs.Promise.{storedAs, ResultLineIs};
 use rules::Frame;
 use rules::Lot;
 use rules::MOST_HELD;
+use rules::Pans;
 use rules::Refusal;
 use rules::Stage;
 
@@ -20,6 +24,20 @@ pub struct Results {
 pub enum ResultLine {
     Taken(Results),
     Refused(Refusal),
+}
+
+// What a result comes to: one more is held, or the refusal.
+fn stored(refusal: Refusal, held: usize) -> ResultLine
+    requires { ⌜ (numberOf refusal ≡ 0 → held < mostHeld) ⌝ }
+    ensures { λ r. ⌜ r ≡ storedAs refusal held ⌝ }
+{
+    if refusal.number() != 0 {
+        return ResultLine::Refused(refusal);
+    }
+    ResultLine::Taken(Results {
+        stage: Stage::Result,
+        held: held + 1,
+    })
 }
 
 // A result: an enter.
@@ -38,14 +56,30 @@ fn enter_step(
     if !stages::takes(stage, 5) {
         return ResultLine::Refused(Refusal::OutOfTurn);
     }
-    let refusal = tally::enter_in(lot, containers, results, held, c, x);
-    if refusal.number() != 0 {
-        return ResultLine::Refused(refusal);
+    stored(tally::enter_in(lot, containers, results, held, c, x), held)
+}
+
+// A weighed result: a weigh.
+fn weigh_step(
+    p: Results,
+    lot: Lot,
+    containers: &mut [u16; MOST_HELD],
+    results: &mut [u16; MOST_HELD],
+    c: u16,
+    status: u16,
+    pans: Pans,
+) -> ResultLine
+    ensures { λ r. ⌜ ResultLineIs (frame.Balance c status pans) lot p (now (containers .entry)) (now (results .entry)) r (now (containers .exit)) (now (results .exit)) ⌝ }
+{
+    let stage = p.stage;
+    let held = p.held;
+    if !stages::takes(stage, 7) {
+        return ResultLine::Refused(Refusal::OutOfTurn);
     }
-    ResultLine::Taken(Results {
-        stage: Stage::Result,
-        held: held + 1,
-    })
+    stored(
+        tally::weigh_in(lot, containers, results, held, c, status, pans),
+        held,
+    )
 }
 
 // The end: the number of results.
@@ -96,5 +130,10 @@ pub fn result_step(
         } => ResultLine::Refused(Refusal::OutOfTurn),
         Frame::Result { container: c, x } => enter_step(p, lot, containers, results, c, x),
         Frame::End { count: n } => end_step(p, n),
+        Frame::Balance {
+            container: c,
+            status,
+            pans,
+        } => weigh_step(p, lot, containers, results, c, status, pans),
     }
 }

@@ -13,7 +13,7 @@ use Rattle.rules.specs.Cards.{headGood, openNumber, cardOf, withHead, cutToRows
 use Rattle.rules.specs.Ledger.{Ledger, containers, judged, opened, withContents, freshLedger}
 use Rattle.rules.specs.Lines.{linesOf}
 use Rattle.rules.specs.Reading.{State, accepted, onLot, onCard, lotStep, cardStep, readFrom, atStart, readOf}
-use Rattle.rules.specs.Writing.{lotLine, cardLine, sheetOf}
+use Rattle.rules.specs.Writing.{lotLine, cardLine, sheetWith, sheetOf}
 use Rattle.rules.specs.declared.Lot.{Lot}
 use Rattle.rules.specs.declared.Head.{Head}
 use Rattle.rules.specs.declared.Card.{Card}
@@ -45,7 +45,7 @@ module _ (g : Ledger) (w : Writable g) where
   f = g .contents
 
   -- ---- the card as the reader has it, and the ledger that it opens
-  abbrev read : Card
+  abbrev pub read : Card
   read = cardAt c criticals (c .rows)
 
   card-is : cutToRows read ≡ c
@@ -96,34 +96,40 @@ module _ (g : Ledger) (w : Writable g) where
       (simp good)
       (record { read = record { lot = refl; card = refl; results = refl; unopened = refl; turns = (refl, refl, refl) }; last = omega arith; turn = refl }))
 
-  pub all-reach : Reaches (sheetOf g) atStart (Ended l read f)
-  unfolding sheetOf
-  all-reach =
-      reach-then (ResultsReadBack l read f (containers g)) _ _ _ atStart
-      (reach-then (CardRead l read) _ _ _ atStart
-      (reach-then (CriticalsRead l c criticals) _ _ _ atStart
-      (reach-then (CriticalsRead l c 0) _ _ _ atStart
-      (reach-then (λ s. s ≡ behindLot) _ _ _ atStart lot-reach card-reach)
-      (λ u r. criticals-reach l c (w .carded) u r criticals (omega arith)))
-      (λ u r. rows-reach l c (w .carded) u (r .read) (c .rows) (omega arith)))
-      (λ u r. results-reach l read f (w .carded .few) (w .placed) u (begins u r) (containers g) (omega arith)))
-      (end-reach l read f (w .carded .few) (w .placed))
-
   ledger-is : ledgerAt l read f (containers g) ≡ g
   ledger-is = λ i. record { lot = l; card = card-is i; contents = upto-all f (containers g) (w .placed .outside) i }
 
-  -- the sheet and whatever stands behind it
-  pub read-on : (rest : List ℕ) → readOf (sheetOf g ++ rest) ≡ readFrom (linesOf rest) (all-reach .last) (all-reach .lines 0)
-  unfolding readOf
-  read-on rest = all-reach .same rest 0
+  -- ---- a sheet whose lines x say the results
+  module _ (x : List ℕ) (results : (u : State) → ResultsReadBack l read f 0 u → Reaches x u (ResultsReadBack l read f (containers g))) where
+    pub all-reach : Reaches (sheetWith g x) atStart (Ended l read f)
+    all-reach =
+        reach-then (ResultsReadBack l read f (containers g)) _ _ _ atStart
+        (reach-then (CardRead l read) _ _ _ atStart
+        (reach-then (CriticalsRead l c criticals) _ _ _ atStart
+        (reach-then (CriticalsRead l c 0) _ _ _ atStart
+        (reach-then (λ s. s ≡ behindLot) _ _ _ atStart lot-reach card-reach)
+        (λ u r. criticals-reach l c (w .carded) u r criticals (omega arith)))
+        (λ u r. rows-reach l c (w .carded) u (r .read) (c .rows) (omega arith)))
+        (λ u r. results u (begins u r)))
+        (end-reach l read f (w .carded .few) (w .placed))
 
-  yields-it : readOf (sheetOf g) ≡ accepted g (all-reach .lines 0)
-  unfolding readFrom
-  yields-it =
-      let e = all-reach .holds in
-      ap readOf (sym (append-nil (sheetOf g)))
-      ∙ (read-on []
-      ∙ (rw (no-lines, e .0) (ap (λ (h : Ledger). accepted h (all-reach .lines 0)) (e .1 ∙ ledger-is))))
+    -- the sheet and whatever stands behind it
+    pub read-on : (rest : List ℕ) → readOf (sheetWith g x ++ rest) ≡ readFrom (linesOf rest) (all-reach .last) (all-reach .lines 0)
+    unfolding readOf
+    read-on rest = all-reach .same rest 0
 
+    yields-it : readOf (sheetWith g x) ≡ accepted g (all-reach .lines 0)
+    unfolding readFrom
+    yields-it =
+        let e = all-reach .holds in
+        ap readOf (sym (append-nil (sheetWith g x)))
+        ∙ (read-on []
+        ∙ (rw (no-lines, e .0) (ap (λ (h : Ledger). accepted h (all-reach .lines 0)) (e .1 ∙ ledger-is))))
+
+    pub back-with : ReadsAs (sheetWith g x) g
+    back-with = yields-it ∙ ap (accepted g) (yields (sheetWith g x) g (all-reach .lines 0) yields-it .1)
+
+  -- the sheet that is written
   pub back : ReadsAs (sheetOf g) g
-  back = yields-it ∙ ap (accepted g) (yields (sheetOf g) g (all-reach .lines 0) yields-it .1)
+  unfolding sheetOf
+  back = back-with _ (λ u r. results-reach l read f (w .carded .few) (w .placed) u r (containers g) (omega arith))

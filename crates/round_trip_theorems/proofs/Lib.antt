@@ -3,6 +3,7 @@ pub mod Reached
 pub mod Writable
 pub mod CardLines
 pub mod ResultLines
+pub mod WeighedLines
 pub mod Back
 pub mod Longest
 pub mod OneLineMore

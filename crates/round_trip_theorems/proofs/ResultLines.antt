@@ -1,6 +1,7 @@
 -- The lines of the results and the end. Assumes nothing.
 use mathlib.Core.Path.{_≡_, refl, sym, ap, _∙_, fun-ext}
 use mathlib.Core.Bool.{true}
+use mathlib.Core.List.{List}
 use Prim.Native.Nat.{ℕ, zero, suc, _+_, _≤_, _<_}
 use native.Mathlib.Omega.{arith}
 use native.Mathlib.Decide.{ℕ-discrete, decLe}
@@ -11,14 +12,15 @@ use Rattle.rules.specs.Limits.{mostHeld, highestX, widest}
 use Rattle.rules.specs.Contents.{Content, Contents, free, holds, none, put, one, total}
 use Rattle.rules.specs.Ledger.{Ledger, Judged, judged, containers, held, opened, withContents, enterNumber, enterOn}
 use Rattle.rules.specs.Stages.{mayStand, isEnded}
-use Rattle.rules.specs.Reading.{State, Next, goes, andThen, begun, onLedger, resultStep, endStep}
+use Rattle.rules.specs.Reading.{State, Next, goes, andThen, begun, onLedger, resultStep, endStep, stepOf}
 use Rattle.rules.specs.Writing.{resultLine, placeLine, resultLines, endLine}
 use Rattle.rules.specs.declared.Lot.{Lot}
 use Rattle.rules.specs.declared.Card.{Card}
 use Rattle.rules.specs.declared.Stage.the-variants as stage
+use Rattle.rules.specs.declared.Frame.{Frame}
 use Rattle.rules.specs.declared.Frame.the-variants as frame
 use Rattle.rules.proofs.ContentLaws.{put-same, put-other, put-self, total-put, total-none}
-use Rattle.round_trip_theorems.proofs.Spelled.{result-spells, end-spells}
+use Rattle.round_trip_theorems.proofs.Spelled.{Spells, result-spells, end-spells}
 use Rattle.round_trip_theorems.proofs.Writable.{WritableResults}
 use Rattle.round_trip_theorems.proofs.Reached.{Reaches, reach-none, reach-then, reach-line}
 
@@ -103,13 +105,24 @@ module _ (t : Lot) (c : Card) (f : Contents) (few : t .containers ≤ widest) (w
   abbrev Read : ℕ → State → Type 0
   Read n s = ResultsReadBack t c f n s
 
+  -- one result more, by a line that enters it
+  pub one-result : (n x : ℕ) → n < t .containers → f (suc n) ≡ holds x → (u : State) → Read n u → (y : List ℕ) (fr : Frame) → Spells y fr
+      → stepOf fr u ≡ andThen (enterOn (ledgerAt t c f n) (suc n) x) (λ g. goes (onLedger u stage.Result (u .results + 1) g)) → Reaches y u (Read (suc n))
+  one-result n x h e u r y fr spelt step =
+      let goesOn : Ledger → Next = λ g. goes (onLedger u stage.Result (u .results + 1) g) in
+      let low = w .low (suc n) x e in
+      let more = total-next f n in
+      let one-more = ap one e in
+      let room : held (ledgerAt t c f n) < mostHeld = omega (arith, upto-size f n (t .containers) (w .none) (omega arith), total-rise f (suc n) (t .containers) h, w .small) in
+      let entered = enter-good (ledgerAt t c f n) (suc n) x (omega arith) h low (upto-above f n (suc n) (omega arith)) room in
+      reach-line (Read (suc n)) y fr u (onLedger u stage.Result (u .results + 1) (ledgerAt t c f (suc n))) spelt
+      (step ∙ (ap (λ (j : Judged). andThen j goesOn) entered ∙ ap (λ (q : Contents). goesOn (withContents (opened t c) q)) (upto-more f n (holds x) e)))
+      (record { begins = refl; count = omega (arith, r .count); turns = (refl, refl) })
+
   one-place : (n : ℕ) → n < t .containers → (u : State) → Read n u → Reaches (placeLine (suc n) (f (suc n))) u (Read (suc n))
   unfolding resultStep
   one-place n h u r = by (f (suc n)) refl
     where
-      goesOn : Ledger → Next
-      goesOn g = goes (onLedger u stage.Result (u .results + 1) g)
-
       by : (p : Content) → f (suc n) ≡ p → Reaches (placeLine (suc n) p) u (Read (suc n))
       by free e =
           let same = sym (put-self (upto f n) (suc n) free (upto-above f n (suc n) (omega arith))) ∙ upto-more f n free e in
@@ -121,15 +134,8 @@ module _ (t : Lot) (c : Card) (f : Contents) (few : t .containers ≤ widest) (w
           })
       by (holds x) e =
           let low = w .low (suc n) x e in
-          let more = total-next f n in
-          let one-more = ap one e in
-          let room : held (ledgerAt t c f n) < mostHeld = omega (arith, upto-size f n (t .containers) (w .none) (omega arith), total-rise f (suc n) (t .containers) h, w .small) in
-          let entered = enter-good (ledgerAt t c f n) (suc n) x (omega arith) h low (upto-above f n (suc n) (omega arith)) room in
-          reach-line (Read (suc n)) (resultLine (suc n) x) (frame.Result (suc n) x) u (onLedger u stage.Result (u .results + 1) (ledgerAt t c f (suc n)))
-          (result-spells (suc n) x (omega arith) (omega arith))
-          (rw (r .turns .0, r .begins)
-          (ap (λ (j : Judged). andThen j goesOn) entered ∙ ap (λ (q : Contents). goesOn (withContents (opened t c) q)) (upto-more f n (holds x) e)))
-          (record { begins = refl; count = omega (arith, r .count); turns = (refl, refl) })
+          one-result n x h e u r (resultLine (suc n) x) (frame.Result (suc n) x) (result-spells (suc n) x (omega arith) (omega arith))
+          (rw (r .turns .0, r .begins) refl)
 
   pub results-reach : (s : State) → Read 0 s → (n : ℕ) → n ≤ t .containers → Reaches (resultLines f n) s (Read n)
   unfolding resultLines

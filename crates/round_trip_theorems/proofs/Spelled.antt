@@ -1,4 +1,4 @@
--- Each line that the writer spells is the frame that it stands for. Assumes nothing.
+-- Each line that the writer spells, and one of a weighed result, is the frame that it stands for. Assumes nothing.
 use mathlib.Core.Path.{_≡_, refl, sym, ap, _∙_}
 use mathlib.Core.Bool.{true, or-true, true≢false}
 use mathlib.Core.List.{List, [], _∷_, _++_, append-assoc, append-nil}
@@ -7,18 +7,20 @@ use native.Mathlib.Omega.{arith}
 use native.Mathlib.Decide.{decLe}
 use lib.ListN.{length, getD, take, drop, length-append}
 use lib.Seq.{take-at, drop-append-add}
+use lib.Ieee.{binary32, ofBits}
 use borrow.Author.Tests.{eq-eqb, ne-eqb, le-leb}
-use Rattle.rules.specs.Limits.{lotDigits, cardDigits, criticalDigits, rangeDigits, resultDigits, endDigits}
+use Rattle.rules.specs.Limits.{lotDigits, cardDigits, criticalDigits, rangeDigits, resultDigits, endDigits, balanceDigits}
 use Rattle.rules.specs.Text.{byte}
 use Rattle.rules.specs.Lines.{ended, cutFrom, linesOf}
 use Rattle.rules.specs.Fields.{isDigit, allDigits, numberBehind, number, fieldOf, digits, digitOf}
-use Rattle.rules.specs.Frames.{sized, lotFrame, cardFrame, criticalFrame, rangeFrame, resultFrame, endFrame, kindFrame, frameOf}
+use Rattle.rules.specs.Frames.{sized, lotFrame, cardFrame, criticalFrame, rangeFrame, resultFrame, endFrame, balanceFrame, kindFrame, frameOf}
 use Rattle.rules.specs.Writing.{lotLine, cardLine, criticalLine, rangeLine, resultLine, endLine}
 use Rattle.rules.specs.Cards.{headOf}
 use Rattle.rules.specs.declared.Frame.{Frame}
 use Rattle.rules.specs.declared.Frame.the-variants as frame
 use Rattle.rules.proofs.Tests.{and-both, and-left, and-right}
 use Rattle.rules.proofs.FieldLaws.{digit-low, digit-high, length-digits, number-digits}
+use Rattle.round_trip_theorems.specs.Statement.{balanceLine}
 
 -- ---- digits
 digit-is : (n : ℕ) → n < 16 → isDigit (digitOf n) ≡ true
@@ -113,7 +115,7 @@ spells k fs n x f g h w e r q =
       is = rw (spelt-all gs, le-leb 2 (length d) long, reads gs 0 h) (r ∙ rw (eq-eqb (length d) n size) q);
     }
 
--- ---- the six kinds
+-- ---- the seven kinds
 pub lot-spells : (a n : ℕ) → a < 256 → n < 65536 → Spells (lotLine a n) (frame.Lot a n)
 unfolding lotLine kindFrame lotFrame
 lot-spells a n ha hn =
@@ -155,3 +157,12 @@ unfolding endLine kindFrame endFrame
 end-spells n hn =
     let fs = field 2 n ∷ [] in
     spells 6 fs endDigits _ _ _ (omega arith) refl (simp append-assoc) refl (λ i. frame.End (reads (field 2 6 ∷ fs) 1 hn i))
+
+pub balance-spells : (c s a b : ℕ) → c < 65536 → s < 256 → a < 4294967296 → b < 4294967296
+    → Spells (balanceLine c s a b) (frame.Balance c s (record { component = ofBits binary32 a; remainder = ofBits binary32 b }))
+unfolding balanceLine kindFrame balanceFrame
+balance-spells c s a b hc hs ha hb =
+    let fs = field 4 c ∷ field 2 s ∷ field 8 a ∷ field 8 b ∷ [] in
+    let gs = field 2 7 ∷ fs in
+    spells 7 fs balanceDigits _ _ _ (omega arith) refl (simp append-assoc) refl
+    (λ i. frame.Balance (reads gs 1 hc i) (reads gs 2 hs i) (record { component = ofBits binary32 (reads gs 3 ha i); remainder = ofBits binary32 (reads gs 4 hb i) }))

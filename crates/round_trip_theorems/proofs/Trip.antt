@@ -8,6 +8,7 @@ use lib.ListN.{length, take}
 use borrow.Author.Tests.{eq-eqb, ne-eqb, eqb-false}
 use denote.Ref.{now}
 use Rattle.rules.specs.Numbers.{TextAnswer, wrote, writtenAnswer}
+use Rattle.rules.specs.Text.{laidIn}
 use Rattle.rules.specs.Lines.{linesOf}
 use Rattle.rules.specs.Ledger.{Ledger, containers}
 use Rattle.rules.specs.Reading.{accepted, readOf}
@@ -15,7 +16,7 @@ use Rattle.rules.specs.Writing.{sheetOf, writeOn}
 use Rattle.rules.specs.declared.Written.{Written}
 use Rattle.rules.specs.declared.Written.the-variants as written
 use Rattle.rules.proofs.TextLaws.{fits-is}
-use Rattle.reading_theorems.specs.Lengths.{longest}
+use Rattle.reading_theorems.specs.Lengths.{longestWritten}
 use Rattle.reading_theorems.proofs.Accepted.{refused-not, same-ledger, same-lines}
 use Rattle.reading_theorems.proofs.SheetLength.{none-longer}
 use Rattle.tally.specs.View.{view}
@@ -27,11 +28,11 @@ use Rattle.sheet.specs.declared.Reading.{Reading}
 use Rattle.sheet.specs.Promise.{outcomeOf}
 use Rattle.history.specs.Calls.{ledger}
 use Rattle.history.proofs.Agreement.{agrees}
-use Rattle.history.proofs.Texts.{laid-text}
+use Rattle.history.proofs.Texts.{laid-text, laid-length}
 use Rattle.round_trip_theorems.specs.Statement.{ReadsAs, Yields, WrittenAs, Trip}
 use Rattle.round_trip_theorems.proofs.Writable.{sound-writable, yields}
 use Rattle.round_trip_theorems.proofs.Back.{back}
-use Rattle.round_trip_theorems.proofs.Longest.{calls, long, full-writable}
+use Rattle.round_trip_theorems.proofs.Longest.{calls, long, full-writable, written-few, heavy, weighed-back}
 use Rattle.round_trip_theorems.proofs.OneLineMore.{needed}
 
 -- ---- the reader's answer to a sheet that the definition accepts
@@ -43,18 +44,28 @@ reads : (sheet : List ℕ) (r : Reading) (g h : Ledger) → ReadsAs sheet g → 
 reads sheet r g h q e x = let p = accepts (r .answer) (r .tally) g _ (x ∙ q) in record { accepted = p .0; same = p .1 ∙ e }
 
 -- ---- what the writer lays down
--- by the definition; a lot was opened
-laid-down : (t : Tally) (d e : List ℕ) (r : ℕ) → Sound t → wrote r e ≡ writeOn (view t) d → ReadsAs (take r e) (view t)
-laid-down t d e r s q = go (ℕ-discrete (t .lot .containers) 0)
-  where
-    go : Dec (t .lot .containers ≡ 0) → ReadsAs (take r e) (view t)
-    go (yes z) = absurd (eqb-false 0 3 refl (ap (λ (u : TextAnswer). u .number) (rw (eq-eqb (t .lot .containers) 0 z) at q)))
-    go (no z) = rw (laid-text (sheetOf (view t)) d r e (rw (ne-eqb (t .lot .containers) 0 z) at q) .0) (back (view t) (sound-writable t s (omega arith)))
+-- a lot was opened, and it is the sheet, of which all bytes are there
+module _ (t : Tally) (d e : List ℕ) (r : ℕ) (s : Sound t) (q : wrote r e ≡ writeOn (view t) d) where
+  opened : 1 ≤ t .lot .containers
+  opened = go (ℕ-discrete (t .lot .containers) 0)
+    where
+      go : Dec (t .lot .containers ≡ 0) → 1 ≤ t .lot .containers
+      go (yes z) = absurd (eqb-false 0 3 refl (ap (λ (u : TextAnswer). u .number) (rw (eq-eqb (t .lot .containers) 0 z) at q)))
+      go (no z) = omega arith
 
--- a buffer with room for the longest sheet is never short
-room-serves : (t : Tally) (d e : List ℕ) (w : Written) → Sound t → 1 ≤ t .lot .containers → longest ≤ length d → writtenAnswer w e ≡ writeOn (view t) d → WrittenAs w
+  laid : wrote r e ≡ laidIn (sheetOf (view t)) d
+  laid = rw (ne-eqb (t .lot .containers) 0 (λ z. omega (arith, opened))) at q
+
+  laid-down : ReadsAs (take r e) (view t)
+  laid-down = rw (laid-text (sheetOf (view t)) d r e laid .0) (back (view t) (sound-writable t s opened))
+
+  no-longer : r ≤ longestWritten
+  no-longer = omega (arith, laid-length (sheetOf (view t)) d r e laid, written-few (view t) (sound-writable t s opened))
+
+-- a buffer with room for the longest sheet that is written is never short
+room-serves : (t : Tally) (d e : List ℕ) (w : Written) → Sound t → 1 ≤ t .lot .containers → longestWritten ≤ length d → writtenAnswer w e ≡ writeOn (view t) d → WrittenAs w
 room-serves t d e w s h room q =
-    let fits = none-longer (sheetOf (view t)) (view t) _ (back (view t) (sound-writable t s h)) in
+    let fits = written-few (view t) (sound-writable t s h) in
     by w (ap (λ (u : TextAnswer). u .number) (rw (ne-eqb (t .lot .containers) 0 (λ z. omega arith)) at q ∙ fits-is (sheetOf (view t)) d (omega arith)))
   where
     by : (w : Written) → writtenAnswer w e .number ≡ 0 → WrittenAs w
@@ -73,8 +84,11 @@ trip =
           room-serves t (now b) (now a) w (i .sound) (rw (← i .same) at h) room (x .right (i .sound));
       again = λ sheet g n q. back g (yields sheet g n q .0);
       most = λ κ sheet r n x a. none-longer (now sheet) (view (r .tally)) n (sym (x .right) ∙ ap (λ (o : Answer). outcomeOf o (r .tally)) a);
+      short = λ cs ns t run κ b n a w. let i = agrees run in no-longer t (now b) (now a) n (i .sound) (w .right (i .sound));
       calls = calls;
       long = long;
       reached = λ κ sheet r e x. reads (now sheet) r _ _ (rw e (back _ full-writable)) refl (x .right);
+      heavy = heavy;
+      weighed = λ κ sheet r e x. reads (now sheet) r _ _ (rw e weighed-back) refl (x .right);
       needed = needed;
     }

@@ -11,4 +11,7 @@ pub mod TextLaws
 pub mod SpreadLaws
 pub mod LineLaws
 pub mod FieldLaws
+pub mod FloatLaws
+pub mod WeightLaws
+pub mod Weighed
 pub mod Bounds

@@ -4,11 +4,12 @@ use mathlib.Core.List.{List}
 use Prim.Native.Nat.{ℕ}
 use lib.Dec.{eqb, leb}
 use lib.ListN.{length}
+use lib.Ieee.{Float, binary32, ofBits}
 use Rattle.rules.specs.Choice.{pick}
-use Rattle.rules.specs.Limits.{lotDigits, cardDigits, criticalDigits, rangeDigits, resultDigits, endDigits}
+use Rattle.rules.specs.Limits.{lotDigits, cardDigits, criticalDigits, rangeDigits, resultDigits, endDigits, balanceDigits}
 use Rattle.rules.specs.Fields.{allDigits, fieldOf}
 use Rattle.rules.specs.declared.Frame.{Frame}
-use Rattle.rules.specs.declared.Frame.the-variants.{Bad, Lot, Card, Critical, Range, Result, End}
+use Rattle.rules.specs.declared.Frame.the-variants.{Bad, Lot, Card, Critical, Range, Result, End, Balance}
 
 -- a frame where the line has n digits, else a bad line
 abbrev pub sized : List ℕ → ℕ → Frame → Frame
@@ -34,9 +35,18 @@ rangeFrame d = sized d rangeDigits (Range (fieldOf d 2 2) (fieldOf d 4 2) (field
 unfoldable pub resultFrame : List ℕ → Frame
 resultFrame d = sized d resultDigits (Result (fieldOf d 2 4) (fieldOf d 6 4))
 
--- 06 end: number of 05 frames (2)
+-- 06 end: number of 05 and 07 frames (2)
 unfoldable pub endFrame : List ℕ → Frame
 endFrame d = sized d endDigits (End (fieldOf d 2 2))
+
+-- the float of the 8 digits from a on
+abbrev pub floatOf : List ℕ → ℕ → Float
+floatOf d a = ofBits binary32 (fieldOf d a 8)
+
+-- 07 balance: container (4), status (2), component (8), remainder (8)
+unfoldable pub balanceFrame : List ℕ → Frame
+balanceFrame d =
+    sized d balanceDigits (Balance (fieldOf d 2 4) (fieldOf d 6 2) (record { component = floatOf d 8; remainder = floatOf d 16 }))
 
 -- by the kind k
 unfoldable pub kindFrame : ℕ → List ℕ → Frame
@@ -46,7 +56,8 @@ kindFrame k d =
     (pick (eqb k 3) (criticalFrame d)
     (pick (eqb k 4) (rangeFrame d)
     (pick (eqb k 5) (resultFrame d)
-    (pick (eqb k 6) (endFrame d) Bad)))))
+    (pick (eqb k 6) (endFrame d)
+    (pick (eqb k 7) (balanceFrame d) Bad))))))
 
 -- a line of digits alone, the first two of which are the kind
 unfoldable pub frameOf : List ℕ → Frame

@@ -10,12 +10,16 @@ pub mod Fields
 pub mod Lines
 pub mod Frames
 pub mod Stages
--- the tally: lot and card, the map from container to X, the ledger and its four steps
+-- a weighed sample: rounding, the exact number of a float's bits, two weights to X, and what is shown of every one
+pub mod Rounding
+pub mod Floats
+pub mod Weights
+pub mod Weighing
+-- the tally: lot and card, the map from container to X, the ledger and its five steps
 pub mod Cards
 pub mod Contents
 pub mod Ledger
--- H, R and the report: rounding, what each attribute carries, the figures and verdicts, what bounds them, the five lines
-pub mod Rounding
+-- H, R and the report: what each attribute carries, the figures and verdicts, what bounds them, the five lines
 pub mod Attributes
 pub mod Figures
 pub mod Spread

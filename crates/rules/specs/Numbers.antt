@@ -1,8 +1,8 @@
--- The number that document 01 gives to each refusal, and for each answer its number and its value. 0: none applies.
+-- The number that documents 01 and 02 give to each refusal, and for each answer its number and its value. 0: none applies.
 use Prim.Native.Nat.{ℕ}
 use mathlib.Core.List.{List}
 use Rattle.rules.specs.declared.Refusal.{Refusal}
-use Rattle.rules.specs.declared.Refusal.the-variants.{Accepted, BadLine, OutOfTurn, BadLot, BadCard, CardFull, NoSuchContainer, ResultTooHigh, AlreadyHeld, Full, NotHeld, OtherLot, SharedContainer, TooManyTogether, CountWrong, TooFew, BufferShort, OutsideTable}
+use Rattle.rules.specs.declared.Refusal.the-variants.{Accepted, BadLine, OutOfTurn, BadLot, BadCard, CardFull, NoSuchContainer, ResultTooHigh, AlreadyHeld, Full, NotHeld, OtherLot, SharedContainer, TooManyTogether, CountWrong, TooFew, BufferShort, OutsideTable, NotSteady, BadWeight}
 use Rattle.rules.specs.declared.Answered.{Answered}
 use Rattle.rules.specs.declared.TextSize.{TextSize}
 use Rattle.rules.specs.declared.Reported.{Reported}
@@ -17,6 +17,10 @@ use Rattle.rules.specs.declared.Tolerance.{Tolerance}
 use Rattle.rules.specs.declared.Tolerance.the-variants as tolerance
 use Rattle.rules.specs.declared.Mixing.{Mixing}
 use Rattle.rules.specs.declared.Mixing.the-variants as mixing
+use Rattle.rules.specs.declared.Weight.{Weight}
+use Rattle.rules.specs.declared.Weight.the-variants as weight
+use Rattle.rules.specs.declared.Share.{Share}
+use Rattle.rules.specs.declared.Share.the-variants as share
 
 abbrev pub numberOf : Refusal → ℕ
 numberOf Accepted = 0
@@ -37,6 +41,8 @@ numberOf CountWrong = 14
 numberOf TooFew = 15
 numberOf BufferShort = 16
 numberOf OutsideTable = 17
+numberOf NotSteady = 18
+numberOf BadWeight = 19
 
 -- ---- calls that answer a number: the refusal's number, or 0 and the value
 abbrev pub tells : ℕ → ℕ → Answered
@@ -65,6 +71,17 @@ mixingAnswer mixing.Mixable = gives 1
 mixingAnswer mixing.NotMixable = gives 0
 mixingAnswer mixing.ResultTooHigh = refuses 7
 mixingAnswer mixing.OutsideTable = refuses 17
+
+-- tenths of a milligram
+abbrev pub weightAnswer : Weight → Answered
+weightAnswer (weight.Tenths t) = gives t
+weightAnswer weight.Bad = refuses 19
+
+-- X in hundredths of a percent
+abbrev pub shareAnswer : Share → Answered
+shareAnswer (share.Hundredths x) = gives x
+shareAnswer share.NotSteady = refuses 18
+shareAnswer share.BadWeight = refuses 19
 
 -- ---- calls that write: the refusal's number, or 0 and the text's length
 abbrev pub hasSize : ℕ → ℕ → TextSize

@@ -5,12 +5,13 @@ use lib.Dec.{eqb, ltb}
 use Rattle.rules.specs.Choice.{pick, unless}
 use Rattle.rules.specs.Limits.{mostRows}
 use Rattle.rules.specs.Cards.{lotGood, headGood, criticalFollows, rowGood, headOf, withHead, withCritical, withRow, freshLot, freshCard}
-use Rattle.rules.specs.Ledger.{Ledger, Judged, openOn, enterOn, freshLedger}
+use Rattle.rules.specs.Ledger.{Ledger, Judged, openOn, enterOn, weighOn, freshLedger}
 use Rattle.rules.specs.Stages.{mayStand, isOpened, isEnded}
 use Rattle.rules.specs.Lines.{Line, ended, unended, linesOf}
 use Rattle.rules.specs.Frames.{frameOf}
 use Rattle.rules.specs.declared.Lot.{Lot}
 use Rattle.rules.specs.declared.Card.{Card}
+use Rattle.rules.specs.declared.Pans.{Pans}
 use Rattle.rules.specs.declared.Stage.{Stage}
 use Rattle.rules.specs.declared.Stage.the-variants as stage
 use Rattle.rules.specs.declared.Frame.{Frame}
@@ -23,7 +24,7 @@ pub record State : Type 0 where
   pub card : Card
   -- N of the critical frame before, 0 for none
   pub last : ℕ
-  -- the number of result frames
+  -- the number of 05 and 07 frames
   pub results : ℕ
   pub ledger : Ledger
 
@@ -90,13 +91,21 @@ begun s = pick (isOpened (s .stage)) (record { number = 0; ledger = s .ledger })
 abbrev pub andThen : Judged → (Ledger → Next) → Next
 andThen j k = unless (eqb (j .number) 0) (stops (j .number)) (k (j .ledger))
 
+-- a result of this kind, by its step of the ledger
+abbrev pub resultBy : ℕ → State → (Ledger → Judged) → Next
+resultBy kind s step =
+    unless (mayStand kind (s .stage)) (stops 2)
+    (andThen (begun s) λ g. andThen (step g) λ h. goes (onLedger s stage.Result (s .results + 1) h))
+
 -- 05: an enter
 unfoldable pub resultStep : State → ℕ → ℕ → Next
-resultStep s c x =
-    unless (mayStand 5 (s .stage)) (stops 2)
-    (andThen (begun s) λ g. andThen (enterOn g c x) λ h. goes (onLedger s stage.Result (s .results + 1) h))
+resultStep s c x = resultBy 5 s (λ g. enterOn g c x)
 
--- 06: the number of 05 frames
+-- 07: a weigh, which is out of turn on a sheet of another attribute than purity
+unfoldable pub balanceStep : State → ℕ → ℕ → Pans → Next
+balanceStep s c status p = resultBy 7 s (λ g. weighOn g c status p)
+
+-- 06: the number of 05 and 07 frames
 unfoldable pub endStep : State → ℕ → Next
 endStep s n =
     unless (mayStand 6 (s .stage)) (stops 2)
@@ -110,6 +119,7 @@ stepOf (frame.Critical k v) s = criticalStep s k v
 stepOf (frame.Range l h b r) s = rangeStep s l h b r
 stepOf (frame.Result c x) s = resultStep s c x
 stepOf (frame.End n) s = endStep s n
+stepOf (frame.Balance c status p) s = balanceStep s c status p
 
 -- ---- line by line
 abbrev pub after : Next → ℕ → (State → SheetOutcome) → SheetOutcome

@@ -5,14 +5,18 @@ use lib.Dec.{eqb}
 use Rattle.rules.specs.declared.Stage.{Stage}
 use Rattle.rules.specs.declared.Stage.the-variants as stage
 
--- Order: one 01, one 02, any 03, up to 96 of 04, any 05, one 06, nothing more. Whether a frame of a kind may stand next.
+-- a result, weighed or not, or the end
+abbrev pub isOfResults : ℕ → Bool
+isOfResults kind = eqb kind 5 || (eqb kind 6 || eqb kind 7)
+
+-- Order: one 01, one 02, any 03, up to 96 of 04, any 05 and 07, one 06, nothing more. Whether a frame of a kind may stand next.
 abbrev pub mayStand : ℕ → Stage → Bool
 mayStand kind stage.Start = eqb kind 1
 mayStand kind stage.Lot = eqb kind 2
-mayStand kind stage.Card = eqb kind 3 || (eqb kind 4 || (eqb kind 5 || eqb kind 6))
-mayStand kind stage.Critical = eqb kind 3 || (eqb kind 4 || (eqb kind 5 || eqb kind 6))
-mayStand kind stage.Range = eqb kind 4 || (eqb kind 5 || eqb kind 6)
-mayStand kind stage.Result = eqb kind 5 || eqb kind 6
+mayStand kind stage.Card = eqb kind 3 || (eqb kind 4 || isOfResults kind)
+mayStand kind stage.Critical = eqb kind 3 || (eqb kind 4 || isOfResults kind)
+mayStand kind stage.Range = eqb kind 4 || isOfResults kind
+mayStand kind stage.Result = isOfResults kind
 mayStand kind stage.End = false
 
 -- the lot is opened at the first result, or at the end where there is none

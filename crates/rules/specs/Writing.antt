@@ -58,15 +58,19 @@ unfoldable pub resultLines : Contents → ℕ → List ℕ
 resultLines f zero = []
 resultLines f (suc n) = resultLines f n ++ placeLine (suc n) (f (suc n))
 
--- the sheet
-unfoldable pub sheetOf : Ledger → List ℕ
-sheetOf g =
+-- a sheet with these lines for the results
+abbrev pub sheetWith : Ledger → List ℕ → List ℕ
+sheetWith g results =
     lotLine (g .lot .attribute) (containers g)
     ++ cardLine (g .card .head)
     ++ criticalLines (g .card .critical) criticals
     ++ rangeLines (g .card) (g .card .rows)
-    ++ resultLines (g .contents) (containers g)
+    ++ results
     ++ endLine (held g)
+
+-- the sheet that is written: each result as 05, weighed or not
+unfoldable pub sheetOf : Ledger → List ℕ
+sheetOf g = sheetWith g (resultLines (g .contents) (containers g))
 
 -- the sheet writer: bad lot where none was opened, buffer short, or the sheet
 abbrev pub writeOn : Ledger → List ℕ → TextAnswer

@@ -33,6 +33,9 @@ pub const FEWEST_MIXED: usize = 2;
 
 pub const MOST_MIXED: usize = 60;
 
+// How many tenths of a milligram a gram has.
+pub const TENTHS_PER_GRAM: u64 = 10000;
+
 // The largest number of four hexadecimal digits.
 pub const WIDEST: u32 = 65535;
 
@@ -48,6 +51,8 @@ pub const RANGE_DIGITS: usize = 14;
 pub const RESULT_DIGITS: usize = 10;
 
 pub const END_DIGITS: usize = 4;
+
+pub const BALANCE_DIGITS: usize = 24;
 
 // What was tested.
 pub enum Attribute {
@@ -82,7 +87,7 @@ pub struct Card {
     pub tolerated: [u16; MOST_ROWS],
 }
 
-// The trade words of document 01's table. Accepted: none applies.
+// The trade words of document 01's table and of document 02's points. Accepted: none applies.
 pub enum Refusal {
     Accepted,
     BadLine,
@@ -102,6 +107,8 @@ pub enum Refusal {
     TooFew,
     BufferShort,
     OutsideTable,
+    NotSteady,
+    BadWeight,
 }
 
 // The stages of a sheet: which frame was read last.
@@ -144,6 +151,37 @@ pub enum Frame {
     End {
         count: u16,
     },
+    Balance {
+        container: u16,
+        status: u16,
+        pans: Pans,
+    },
+}
+
+// Both pans of a sample, in grams.
+pub struct Pans {
+    pub component: f32,
+    pub remainder: f32,
+}
+
+// What the balance says of one pan: an overload has no weight.
+pub enum Reading {
+    Steady(f32),
+    Unsteady(f32),
+    Overload,
+}
+
+// A weight in tenths of a milligram.
+pub enum Weight {
+    Tenths(u32),
+    Bad,
+}
+
+// X of a weighed sample in hundredths of a percent, or why there is none.
+pub enum Share {
+    Hundredths(u16),
+    NotSteady,
+    BadWeight,
 }
 
 // N, S, Q, and the two ends of the range.

@@ -1,4 +1,4 @@
-// The number that document 01 gives to each refusal.
+// The number that documents 01 and 02 give to each refusal.
 ghost use mathlib.Core.Path.{_≡_};
 ghost use Rattle.rules.specs.Numbers.{numberOf};
 use crate::Refusal;
@@ -26,6 +26,8 @@ impl Refusal {
             Refusal::TooFew => 15,
             Refusal::BufferShort => 16,
             Refusal::OutsideTable => 17,
+            Refusal::NotSteady => 18,
+            Refusal::BadWeight => 19,
         }
     }
 }

@@ -1,7 +1,14 @@
 // What may stand next in a sheet, and whether it may end.
 ghost use mathlib.Core.Path.{_≡_};
-ghost use Rattle.rules.specs.Stages.{mayStand, isEnded};
+ghost use Rattle.rules.specs.Stages.{isOfResults, mayStand, isEnded};
 use rules::Stage;
+
+// A result, weighed or not, or the end.
+fn of_results(kind: u16) -> bool
+    ensures { λ r. ⌜ r ≡ isOfResults kind ⌝ }
+{
+    (kind == 5) | ((kind == 6) | (kind == 7))
+}
 
 // Whether a frame of this kind may stand next.
 pub fn takes(stage: Stage, kind: u16) -> bool
@@ -10,10 +17,10 @@ pub fn takes(stage: Stage, kind: u16) -> bool
     match stage {
         Stage::Start => kind == 1,
         Stage::Lot => kind == 2,
-        Stage::Card => (kind == 3) | ((kind == 4) | ((kind == 5) | (kind == 6))),
-        Stage::Critical => (kind == 3) | ((kind == 4) | ((kind == 5) | (kind == 6))),
-        Stage::Range => (kind == 4) | ((kind == 5) | (kind == 6)),
-        Stage::Result => (kind == 5) | (kind == 6),
+        Stage::Card => (kind == 3) | ((kind == 4) | of_results(kind)),
+        Stage::Critical => (kind == 3) | ((kind == 4) | of_results(kind)),
+        Stage::Range => (kind == 4) | of_results(kind),
+        Stage::Result => of_results(kind),
         Stage::End => false,
     }
 }

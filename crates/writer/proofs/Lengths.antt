@@ -10,11 +10,11 @@ use Rattle.rules.specs.Choice.{pick}
 use Rattle.rules.specs.Limits.{criticals, lotBytes, cardBytes, criticalBytes, rangeBytes, resultBytes, endBytes}
 use Rattle.rules.specs.Contents.{Content, Contents, free, holds, one, total}
 use Rattle.rules.specs.Ledger.{Ledger, held, containers}
-use Rattle.rules.specs.Writing.{lotLine, cardLine, criticalLine, rangeLine, resultLine, endLine, maybeLine, criticalLines, rangeLines, placeLine, resultLines, sheetOf}
+use Rattle.rules.specs.Writing.{lotLine, cardLine, criticalLine, rangeLine, resultLine, endLine, maybeLine, criticalLines, rangeLines, placeLine, resultLines, sheetWith, sheetOf}
 use Rattle.rules.specs.declared.Head.{Head}
 use Rattle.rules.specs.declared.Card.{Card}
 use Rattle.rules.proofs.FieldLaws.{length-digits}
-use Rattle.writer.specs.Promise.{counted, isFilled, filled, sheetRoom}
+use Rattle.writer.specs.Promise.{counted, isFilled, filled, cardRoom, sheetRoom}
 use Rattle.writer.proofs.Counting.{count-next, count-room}
 
 lot-length : (a n : ℕ) → length (lotLine a n) ≡ lotBytes
@@ -71,9 +71,8 @@ results-length f zero = refl
 results-length f (suc n) = simp length-append (omega (arith, results-length f n, place-length (suc n) (f (suc n))))
 
 -- ---- the sheet
-pub sheet-length : (g : Ledger) → length (sheetOf g) ≡ sheetRoom (g .card) (held g)
-unfolding sheetOf
-sheet-length g =
+pub length-with : (g : Ledger) (results : List ℕ) → length (sheetWith g results) ≡ cardRoom (g .card) + length results + endBytes
+length-with g results =
     simp length-append
     (omega (
       arith,
@@ -81,9 +80,14 @@ sheet-length g =
       card-length (g .card .head),
       criticals-length (g .card .critical) criticals,
       ranges-length (g .card) (g .card .rows),
-      results-length (g .contents) (containers g),
       end-length (held g),
     ))
+
+pub sheet-length : (g : Ledger) → length (sheetOf g) ≡ sheetRoom (g .card) (held g)
+unfolding sheetOf
+sheet-length g =
+    let lines = resultLines (g .contents) (containers g) in
+    omega (arith, length-with g lines, results-length (g .contents) (containers g))
 
 -- ---- critical values
 pub filled-next : (l : List ℕ) (n : ℕ) → filled l (n + 1) ≡ filled l n + counted (isFilled (getD l n 0))

@@ -31,17 +31,23 @@ two-requires-2 c κs =
     let found = c .before .before .before .before .before .change-width .ensures .0 in
     omega (arith, found .within, found .wide (c .before .before .before .before .if1 .left) .entered (c .before .if3 .taken))
 
+weighed-requires : tie.Need-weighed-requires Inv-loop μ-loop
+weighed-requires c κs =
+    let found = c .before .before .before .before .before .before .change-width .ensures .0 in
+    omega (arith, found .within, found .wide (c .before .before .before .before .before .if1 .left) .weighed (c .before .if4 .taken))
+
 two-requires-3 : tie.Need-two-requires-3 Inv-loop μ-loop
 two-requires-3 c κs =
-    let found = c .before .before .before .before .before .change-width .ensures .0 in
-    omega (arith, found .within, found .wide (c .before .before .before .before .if1 .left) .withdrawn (c .if4 .taken))
+    let found = c .before .before .before .before .before .before .change-width .ensures .0 in
+    omega (arith, found .within, found .wide (c .before .before .before .before .before .if1 .left) .withdrawn (c .if5 .taken))
 
--- whichever of the four calls was made, the buffer that it was lent keeps its length
+-- whichever of the five calls was made, the buffer that it was lent keeps its length
 same : (c : tie.Joined2 Inv-loop μ-loop) → length (c .if2 .buf) ≡ length (c .before .before .before .before .before .before .loop .buf)
 same c =
     ⊎-elim (λ w. ap length (w .5) ∙ w .2 .kept .1 .1 .0)
     (⊎-elim (λ w. ap length (w .8) ∙ w .5 .kept .1 .1 .1 .0)
-    (⊎-elim (λ w. ap length (w .8) ∙ w .5 .kept .1 .1 .0) (λ w. ap length (w .7) ∙ w .4 .kept .1 .1 .0)))
+    (⊎-elim (λ w. ap length (w .7) ∙ w .4 .kept .1 .1 .0)
+    (⊎-elim (λ w. ap length (w .9) ∙ w .6 .kept .1 .1 .0) (λ w. ap length (w .8) ∙ w .5 .kept .1 .1 .0))))
     (c .if2 .came)
 
 -- its answer had room there
@@ -70,6 +76,6 @@ pub made-on-spec : {M : Type 1} → statement M
 made-on-spec =
     tie.close
     (tie.spec Inv-loop μ-loop (λ c. search needs) (λ c. search needs) (λ c. search needs) (λ c. search needs) (λ c. search needs)
-    (λ c κs. search needs) (λ c. search needs) opened-requires two-requires two-requires-2 (λ c κs. search needs) two-requires-3
+    (λ c κs. search needs) (λ c. search needs) opened-requires two-requires two-requires-2 (λ c κs. search needs) weighed-requires two-requires-3
     (λ c κs. search needs) (λ c κs. search needs) (λ c. search needs) add-at (λ c. search needs) loop-again
     (λ c. search needs) (λ c. search needs) (λ c. search needs) (λ c. search needs) same-length-3 returns-3)

@@ -8,11 +8,12 @@ use Rattle.stages.proofs.takes.Tie as tie
 pub takes-spec : {M : Type 1} → statement M
 takes-spec =
     tie.close
-    (tie.spec (λ c. search needs) (λ c. search needs) (λ c. search needs) (λ c. search needs) (λ c. search needs) (λ c. search needs)
-    (λ c. search needs) (λ c. ap (mayStand (c .before .before .args .kind)) (sym (c .enum-told .given .1)))
+    (tie.spec (λ c. search needs) (λ c. search needs) (λ c. search needs) (λ c κs. search needs) (λ c. search needs) (λ c κs. search needs)
+    (λ c. search needs) (λ c κs. search needs) (λ c. search needs) (λ c κs. search needs) (λ c. search needs)
+    (λ c. ap (mayStand (c .before .before .args .kind)) (sym (c .enum-told .given .1)))
     (λ c. ap (mayStand (c .before .before .args .kind)) (sym (c .enum-told2 .given .1)))
-    (λ c. ap (mayStand (c .before .before .args .kind)) (sym (c .enum-told3 .given .1)))
-    (λ c. ap (mayStand (c .before .before .args .kind)) (sym (c .enum-told4 .given .1)))
-    (λ c. ap (mayStand (c .before .before .args .kind)) (sym (c .enum-told5 .given .1)))
-    (λ c. ap (mayStand (c .before .before .args .kind)) (sym (c .enum-told6 .given .1)))
+    (λ c. rw (c .before .enum-told3 .given .1, c .of-results .ensures))
+    (λ c. rw (c .before .enum-told4 .given .1, c .of-results2 .ensures))
+    (λ c. rw (c .before .enum-told5 .given .1, c .of-results3 .ensures))
+    (λ c. rw (c .before .enum-told6 .given .1, c .of-results4 .ensures))
     (λ c. ap (mayStand (c .before .before .args .kind)) (sym (c .enum-told7 .given .1))))
