@@ -9,8 +9,9 @@
 //! | 2    | enter    | container (2), X (2) |
 //! | 3    | withdraw | container (2) |
 //! | 4    | join     | nothing; the second byte is 0 (the second tally into the first), 1 (the first into the second), 2 (the first into itself) or 3 (the second into itself) |
-//! | 5    | report   | the length of the lent buffer (2) |
-//! | 6    | write    | the length of the lent buffer (2) |
+//! | 5    | weigh    | container (2), status (2), the float bits of component (4) and remainder (4) |
+//! | 6    | report   | the length of the lent buffer (2) |
+//! | 7    | write    | the length of the lent buffer (2) |
 //!
 //! Each call is answered by one byte, 0 or the refusal's number. For a report or a write two bytes
 //! follow, the text's length (0 where refused), and then the lent buffer itself, which is that part
@@ -20,6 +21,7 @@
 use crate::card::{Card, Lot, MOST_ROWS, Row};
 use crate::refusal::Refusal;
 use crate::tally::Tally;
+use crate::weights::Weighing;
 use crate::{report, sheet};
 
 /// One call; the tallies are named by their number.
@@ -29,6 +31,7 @@ pub enum Call {
     Enter { on: usize, container: u16, x: u16 },
     Withdraw { on: usize, container: u16 },
     Join { on: usize, other: usize },
+    Weigh { on: usize, container: u16, weighing: Weighing },
     Report { on: usize, room: u16 },
     Write { on: usize, room: u16 },
 }
@@ -56,12 +59,18 @@ impl Call {
                 list.extend(container.to_be_bytes());
             }
             Self::Join { on, other } => list.extend([4, if on == other { 2 + *on as u8 } else { *on as u8 }]),
-            Self::Report { on, room } => {
+            Self::Weigh { on, container, weighing } => {
                 list.extend([5, *on as u8]);
+                // A list has two bytes for a status.
+                list.extend([*container, weighing.status as u16].into_iter().flat_map(u16::to_be_bytes));
+                list.extend([weighing.component, weighing.remainder].into_iter().flat_map(u32::to_be_bytes));
+            }
+            Self::Report { on, room } => {
+                list.extend([6, *on as u8]);
                 list.extend(room.to_be_bytes());
             }
             Self::Write { on, room } => {
-                list.extend([6, *on as u8]);
+                list.extend([7, *on as u8]);
                 list.extend(room.to_be_bytes());
             }
         }
@@ -83,8 +92,9 @@ impl Call {
             3 => Self::Withdraw { on, container: list.number()? },
             4 if on < 2 => Self::Join { on, other: 1 - on },
             4 => Self::Join { on: on - 2, other: on - 2 },
-            5 => Self::Report { on, room: list.number()? },
-            6 => Self::Write { on, room: list.number()? },
+            5 => Self::Weigh { on, container: list.number()?, weighing: decode_weighing(list)? },
+            6 => Self::Report { on, room: list.number()? },
+            7 => Self::Write { on, room: list.number()? },
             _ => return None,
         })
     }
@@ -95,6 +105,7 @@ impl Call {
             Self::Enter { .. } => "enter",
             Self::Withdraw { .. } => "withdraw",
             Self::Join { .. } => "join",
+            Self::Weigh { .. } => "weigh",
             Self::Report { .. } => "report",
             Self::Write { .. } => "write",
         }
@@ -118,6 +129,7 @@ impl Call {
                 let other = tallies[*other].clone();
                 tallies[*on].join(&other).map(|()| 0)
             }
+            Self::Weigh { on, container, weighing } => tallies[*on].weigh(*container, weighing).map(|()| 0),
             Self::Report { on, .. } => report::report(&tallies[*on], buf),
             Self::Write { on, .. } => sheet::write(&tallies[*on], buf),
         }
@@ -134,7 +146,7 @@ fn decode_open(list: &mut Bytes) -> Option<(Lot, Box<Card>)> {
         ..Card::default()
     });
     for critical in &mut card.criticals {
-        *critical = u32::from_be_bytes(list.take()?).checked_sub(1);
+        *critical = list.wide_number()?.checked_sub(1);
     }
     for place in &mut card.places[..MOST_ROWS] {
         *place = Row {
@@ -145,6 +157,14 @@ fn decode_open(list: &mut Bytes) -> Option<(Lot, Box<Card>)> {
         };
     }
     Some((lot, card))
+}
+
+fn decode_weighing(list: &mut Bytes) -> Option<Weighing> {
+    Some(Weighing {
+        status: list.number()?.into(),
+        component: list.wide_number()?,
+        remainder: list.wide_number()?,
+    })
 }
 
 /// The bytes of a list that are still to be read.
@@ -159,6 +179,10 @@ impl Bytes<'_> {
 
     fn number(&mut self) -> Option<u16> {
         self.take().map(u16::from_be_bytes)
+    }
+
+    fn wide_number(&mut self) -> Option<u32> {
+        self.take().map(u32::from_be_bytes)
     }
 }
 
@@ -208,12 +232,17 @@ mod tests {
             Call::Join { on: 1, other: 0 },
             Call::Join { on: 0, other: 0 },
             Call::Join { on: 1, other: 1 },
+            Call::Weigh {
+                on: 1,
+                container: 3,
+                weighing: Weighing { status: 65_535, component: 0x0102_0304, remainder: u32::MAX },
+            },
             Call::Report { on: 0, room: 300 },
             Call::Write { on: 1, room: 0 },
         ];
         let mut list = Vec::new();
         calls.iter().for_each(|call| call.encode(&mut list));
-        assert_eq!(list.len(), 2 + 1_024 + 6 + 4 + 8 + 8);
+        assert_eq!(list.len(), 2 + 1_024 + 6 + 4 + 8 + 14 + 8);
         let mut bytes = Bytes(&list);
         for call in calls {
             assert_eq!(Call::decode(&mut bytes), Some(call));

@@ -44,7 +44,8 @@ impl Comparison {
 
     fn numbers(&mut self, what: &'static str, left: i64, right: i64, input: impl fmt::Debug) {
         self.count(what, 1);
-        let answer = if what == "sampling" && left > 0 { "a number".into() } else { left.to_string() };
+        let many = matches!(what, "sampling" | "weighed");
+        let answer = if many && left > 0 { "a number".into() } else { left.to_string() };
         self.reach(format!("{what} {answer}"));
         if left != right {
             self.differ(|| format!("{what} {input:?}: {left} and {right}"));
@@ -199,5 +200,10 @@ pub fn beside(seed: u64, number: usize, left: &dyn Subject, right: &dyn Subject,
         let (results, tolerated) = numbers::components(&mut prng);
         let answers = (left.mixing(&results, tolerated), right.mixing(&results, tolerated));
         found.numbers("mixing", answers.0, answers.1, (&results, tolerated));
+    }
+    for weighing in numbers::weighings(&mut prng, number) {
+        if let (Some(one), Some(other)) = (left.weighed(&weighing), right.weighed(&weighing)) {
+            found.numbers("weighed", one, other, weighing);
+        }
     }
 }

@@ -1,6 +1,6 @@
-//! Document 01 a second time, in plain Rust, and the proved library held against it.
+//! Document 01 with point 1 of document 02 a second time, in plain Rust, and the proved library held against it.
 //!
-//! The modules from `refusal` to `tolerance` are written from the document alone and share nothing
+//! The modules from `buffer` to `weights` are written from the documents alone and share nothing
 //! with the proved code. The others make sheets and calls, and compare the answers.
 
 pub mod buffer;
@@ -12,12 +12,14 @@ pub mod sampling;
 pub mod sheet;
 pub mod tally;
 pub mod tolerance;
+pub mod weights;
 
 pub mod calls;
 pub mod comparison;
 pub mod generate;
 #[cfg(feature = "ours")]
 pub mod ours;
+pub mod patterns;
 pub mod prng;
 pub mod programs;
 pub mod subject;

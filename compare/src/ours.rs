@@ -5,6 +5,8 @@
 //! a slice, which the wrappers see to.
 
 use crate::subject::Subject;
+#[cfg(feature = "weights")]
+use crate::weights::Weighing;
 
 /// What the library adds to a refusal's number.
 const REFUSED: u64 = 1 << 32;
@@ -24,6 +26,12 @@ unsafe extern "C" {
 #[cfg(feature = "rewrite")]
 unsafe extern "C" {
     fn gelvorin_rewrite(sheet: *const u8, sheet_len: usize, buf: *mut u8, buf_len: usize) -> u64;
+}
+
+#[cfg(feature = "weights")]
+unsafe extern "C" {
+    safe fn gelvorin_tenths(bits: u32) -> u64;
+    safe fn gelvorin_weighed(status: u32, component: u32, remainder: u32) -> u64;
 }
 
 #[cfg(feature = "calls")]
@@ -47,6 +55,16 @@ impl Subject for Ours {
         // SAFETY: both pairs come from slices that live through the call.
         let answer = unsafe { gelvorin_rewrite(sheet.as_ptr(), sheet.len(), buf.as_mut_ptr(), buf.len()) };
         Some(signed(answer))
+    }
+
+    #[cfg(feature = "weights")]
+    fn tenths(&self, bits: u32) -> Option<i64> {
+        Some(signed(gelvorin_tenths(bits)))
+    }
+
+    #[cfg(feature = "weights")]
+    fn weighed(&self, weighing: &Weighing) -> Option<i64> {
+        Some(signed(gelvorin_weighed(weighing.status, weighing.component, weighing.remainder)))
     }
 
     fn samples(&self, containers: u32, kilograms: u32) -> i64 {

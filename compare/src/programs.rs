@@ -13,6 +13,7 @@ use crate::generate::sheets::{self, KINDS};
 use crate::prng::Prng;
 use crate::sheet;
 use crate::tally::Tally;
+use crate::weights::Weighing;
 
 /// The program calls reads this much of its input and no more.
 const CALLS_READ: usize = 65_536;
@@ -99,6 +100,10 @@ fn words(call: &Call) -> String {
         }
         Call::Enter { on, container, x } => writeln!(line, " {} {container} {x}", on + 1),
         Call::Withdraw { on, container } => writeln!(line, " {} {container}", on + 1),
+        Call::Weigh { on, container, weighing } => {
+            let Weighing { status, component, remainder } = weighing;
+            writeln!(line, " {} {container} {status} {component} {remainder}", on + 1)
+        }
         Call::Join { on, .. } | Call::Report { on, .. } | Call::Write { on, .. } => {
             writeln!(line, " {}", on + 1)
         }
@@ -120,7 +125,8 @@ fn written(call: &Call, tallies: &mut [Tally; 2]) -> String {
             Call::Open { on, .. }
             | Call::Enter { on, .. }
             | Call::Withdraw { on, .. }
-            | Call::Join { on, .. },
+            | Call::Join { on, .. }
+            | Call::Weigh { on, .. },
             answer,
         ) => {
             let number = answer.map_or_else(|refusal| refusal.number(), |_| 0);

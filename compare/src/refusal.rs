@@ -1,4 +1,4 @@
-//! The numbered refusals of document 01, "Numbers and trade words".
+//! The numbered refusals of document 01, "Numbers and trade words", and those that document 02 adds.
 
 /// Why a call or a sheet is turned down. The discriminant is the document's number.
 #[derive(Clone, Copy, Debug, PartialEq, Eq, PartialOrd, Ord)]
@@ -21,6 +21,8 @@ pub enum Refusal {
     TooFew = 15,
     BufferShort = 16,
     OutsideTable = 17,
+    NotSteady = 18,
+    BadWeight = 19,
 }
 
 impl Refusal {

@@ -5,11 +5,14 @@ use crate::card::{self, Card, Lot, MOST_ROWS, Row};
 use crate::refusal::{Fault, Refusal};
 use crate::report;
 use crate::tally::Tally;
+use crate::weights::Weighing;
 
 /// The byte that ends a line.
 pub const END: u8 = 0x0A;
 /// The longest sheet that is written.
 pub const LONGEST_WRITTEN: usize = 2_629;
+/// The longest sheet that is accepted: all of its 60 results weighed, each 14 digits longer than it is written.
+pub const LONGEST_READ: usize = LONGEST_WRITTEN + 60 * 14;
 
 /// One line's content.
 #[derive(Clone, Copy, Debug, PartialEq, Eq)]
@@ -19,6 +22,7 @@ pub enum Frame {
     Critical { n: u16, value: u16 },
     Range(Row),
     Result { container: u16, x: u16 },
+    Weighed { container: u16, weighing: Weighing },
     End { count: u16 },
 }
 
@@ -32,7 +36,13 @@ impl Frame {
             Self::Range(_) => 4,
             Self::Result { .. } => 5,
             Self::End { .. } => 6,
+            Self::Weighed { .. } => 7,
         }
+    }
+
+    /// The kind whose place in the order the frame takes: a weighed result stands among the results.
+    fn place(&self) -> u8 {
+        if let Self::Weighed { .. } = self { 5 } else { self.kind() }
     }
 
     /// The frame that a line without its end byte spells, if any.
@@ -50,6 +60,14 @@ impl Frame {
             }),
             5 => Self::Result { container: digits.take(4)?, x: digits.take(4)? },
             6 => Self::End { count: digits.take(2)? },
+            7 => Self::Weighed {
+                container: digits.take(4)?,
+                weighing: Weighing {
+                    status: digits.take(2)?.into(),
+                    component: digits.take_bits()?,
+                    remainder: digits.take_bits()?,
+                },
+            },
             _ => return None,
         };
         digits.0.is_empty().then_some(frame)
@@ -83,6 +101,12 @@ impl Frame {
                 put(sheet, x, 4);
             }
             Self::End { count } => put(sheet, count, 2),
+            Self::Weighed { container, weighing } => {
+                put(sheet, container, 4);
+                put(sheet, weighing.status as u16, 2);
+                put_bits(sheet, weighing.component);
+                put_bits(sheet, weighing.remainder);
+            }
         }
         sheet.push(END);
     }
@@ -97,6 +121,11 @@ impl Digits<'_> {
         let (field, rest) = self.0.split_at_checked(width)?;
         self.0 = rest;
         field.iter().try_fold(0, |number, &byte| Some(number << 4 | digit(byte)?))
+    }
+
+    /// The bits of a float in the next eight digits.
+    fn take_bits(&mut self) -> Option<u32> {
+        Some(u32::from(self.take(4)?) << 16 | u32::from(self.take(4)?))
     }
 }
 
@@ -117,6 +146,12 @@ fn put(sheet: &mut Vec<u8>, number: u16, width: u32) {
     }
 }
 
+/// Writes the eight digits of a float's bits.
+fn put_bits(sheet: &mut Vec<u8>, bits: u32) {
+    put(sheet, (bits >> 16) as u16, 4);
+    put(sheet, bits as u16, 4);
+}
+
 /// A tally that was read, and the line of its 06 frame.
 #[derive(Clone, Debug, PartialEq, Eq)]
 pub struct Read {
@@ -126,7 +161,7 @@ pub struct Read {
 
 /// What has been read so far.
 struct Reader {
-    /// The kind of the frame before; 0 at the start.
+    /// The place in the order of the frame before; 0 at the start.
     before: u8,
     lot: Lot,
     card: Card,
@@ -134,7 +169,7 @@ struct Reader {
     last_critical: u16,
     /// Opened when the first frame behind the card comes.
     tally: Tally,
-    /// The 05 frames read.
+    /// The 05 and 07 frames read.
     results: u16,
 }
 
@@ -150,9 +185,9 @@ impl Reader {
         }
     }
 
-    /// Whether a frame of this kind may stand next.
-    fn in_turn(&self, kind: u8) -> bool {
-        match kind {
+    /// Whether a frame that takes this place in the order may stand next.
+    fn in_turn(&self, place: u8) -> bool {
+        match place {
             1 => self.before == 0,
             2 => self.before == 1,
             3 => (2..=3).contains(&self.before),
@@ -163,8 +198,8 @@ impl Reader {
     }
 
     fn take(&mut self, frame: &Frame) -> Result<(), Refusal> {
-        let kind = frame.kind();
-        if !self.in_turn(kind) {
+        let place = frame.place();
+        if !self.in_turn(place) {
             return Err(Refusal::OutOfTurn);
         }
         match *frame {
@@ -175,10 +210,10 @@ impl Reader {
             Frame::Card { factor, offset, seeds } => self.take_card(factor, offset, seeds)?,
             Frame::Critical { n, value } => self.take_critical(n, value)?,
             Frame::Range(row) => self.take_row(row)?,
-            Frame::Result { container, x } => {
-                self.card_is_over()?;
-                self.tally.enter(container, x)?;
-                self.results += 1;
+            Frame::Result { container, x } => self.take_result(|tally| tally.enter(container, x))?,
+            // The tally answers 2 itself where the lot's attribute is another: the frame is then out of turn.
+            Frame::Weighed { container, weighing } => {
+                self.take_result(|tally| tally.weigh(container, &weighing))?;
             }
             Frame::End { count } => {
                 self.card_is_over()?;
@@ -187,7 +222,7 @@ impl Reader {
                 }
             }
         }
-        self.before = kind;
+        self.before = place;
         Ok(())
     }
 
@@ -219,6 +254,13 @@ impl Reader {
         Ok(())
     }
 
+    fn take_result(&mut self, enter: impl FnOnce(&mut Tally) -> Result<(), Refusal>) -> Result<(), Refusal> {
+        self.card_is_over()?;
+        enter(&mut self.tally)?;
+        self.results += 1;
+        Ok(())
+    }
+
     /// Opens the tally when the first frame behind the card comes.
     fn card_is_over(&mut self) -> Result<(), Refusal> {
         if self.before == 5 { Ok(()) } else { self.tally.open(&self.lot, &self.card) }
@@ -234,8 +276,9 @@ pub fn read(sheet: &[u8]) -> Result<Read, Fault> {
         line += 1;
         let fault = |refusal| Fault { refusal, line };
         let digits = bytes.strip_suffix(&[END]).ok_or(fault(Refusal::BadLine))?;
-        let frame = Frame::parse(digits).ok_or(fault(Refusal::BadLine))?;
-        reader.take(&frame).map_err(fault)?;
+        let frame = Frame::parse(digits);
+        // It is read where it stands: a copy of the widest frame shows in the time of every line.
+        reader.take(frame.as_ref().ok_or(fault(Refusal::BadLine))?).map_err(fault)?;
         end_line = line;
     }
     if reader.before == 6 {

@@ -2,9 +2,11 @@
 //! verdict (1 and 0), or minus the refusal's number.
 
 use crate::refusal::Refusal;
+use crate::weights::{self, Weighing};
 use crate::{calls, mixing, sampling, sheet, tolerance};
 
-pub trait Subject {
+/// Its calls may be made from several threads at once.
+pub trait Subject: Sync {
     /// What lotreport prints for a sheet; none where the subject has no such call.
     fn judge(&self, _sheet: &[u8], _buf: &mut [u8]) -> Option<i64> {
         None
@@ -17,6 +19,16 @@ pub trait Subject {
 
     /// A list of calls on two tallies; none where the subject has no such call.
     fn calls(&self, _list: &[u8], _buf: &mut [u8]) -> Option<i64> {
+        None
+    }
+
+    /// A weight's bits in tenths of a milligram; none where the subject has no such call.
+    fn tenths(&self, _bits: u32) -> Option<i64> {
+        None
+    }
+
+    /// X of a weighing; none where the subject has no such call.
+    fn weighed(&self, _weighing: &Weighing) -> Option<i64> {
         None
     }
 
@@ -60,7 +72,23 @@ impl Subject for Independent {
     fn calls(&self, list: &[u8], buf: &mut [u8]) -> Option<i64> {
         Some(calls::run(list, buf) as i64)
     }
+
+    fn tenths(&self, bits: u32) -> Option<i64> {
+        Some(weights::tenths(bits).map_or_else(refused, i64::from))
+    }
+
+    fn weighed(&self, weighing: &Weighing) -> Option<i64> {
+        Some(weighing.x().map_or_else(refused, i64::from))
+    }
 }
+
+/// The subject that the independent implementation is held against, and its name. Without the proved library
+/// it is held against itself, which tries the comparison and nothing else.
+#[cfg(feature = "ours")]
+pub const OTHER: (&str, &dyn Subject) = ("the proved library", &crate::ours::Ours);
+#[cfg(not(feature = "ours"))]
+pub const OTHER: (&str, &dyn Subject) =
+    ("no library linked: the independent implementation itself", &Independent);
 
 fn length(answer: Result<usize, Refusal>) -> i64 {
     answer.map_or_else(refused, |length| length as i64)

@@ -1,7 +1,8 @@
 //! The tally: a lot, a card and a map from container to X.
 
-use crate::card::{Card, HIGHEST_X, Lot};
+use crate::card::{Attribute, Card, HIGHEST_X, Lot};
 use crate::refusal::Refusal;
+use crate::weights::Weighing;
 
 /// Most results held.
 pub const MOST_HELD: usize = 60;
@@ -53,20 +54,26 @@ impl Tally {
 
     /// Adds a result; answers 6, 7, 8 or 9, the lowest that applies.
     pub fn enter(&mut self, container: u16, x: u16) -> Result<(), Refusal> {
-        if container == 0 || container > self.lot.containers {
-            return Err(Refusal::NoSuchContainer);
-        }
+        self.check_container(container)?;
         if x > HIGHEST_X {
             return Err(Refusal::ResultTooHigh);
         }
-        match self.find(container) {
-            Ok(_) => Err(Refusal::AlreadyHeld),
-            Err(_) if self.held.len() >= MOST_HELD => Err(Refusal::Full),
-            Err(place) => {
-                self.held.insert(place, Held { container, x });
-                Ok(())
-            }
+        let place = self.free_place(container)?;
+        self.held.insert(place, Held { container, x });
+        Ok(())
+    }
+
+    /// Adds the result that a balance's weights give; answers 2 where the lot's attribute is not purity, then
+    /// 6, 8, 9, 18 or 19. A fresh tally's attribute is that of purity, so that it answers 6.
+    pub fn weigh(&mut self, container: u16, weighing: &Weighing) -> Result<(), Refusal> {
+        if Attribute::of(self.lot.attribute) != Some(Attribute::Purity) {
+            return Err(Refusal::OutOfTurn);
         }
+        self.check_container(container)?;
+        let place = self.free_place(container)?;
+        let x = weighing.x()?;
+        self.held.insert(place, Held { container, x });
+        Ok(())
     }
 
     /// Removes a result; answers 10 alone.
@@ -90,6 +97,20 @@ impl Tally {
         self.held.extend_from_slice(&other.held);
         self.held.sort_unstable_by_key(|held| held.container);
         Ok(())
+    }
+
+    /// 6 where the lot has no such container.
+    fn check_container(&self, container: u16) -> Result<(), Refusal> {
+        if container == 0 || container > self.lot.containers { Err(Refusal::NoSuchContainer) } else { Ok(()) }
+    }
+
+    /// The place where a container's result would go; answers 8 or 9.
+    fn free_place(&self, container: u16) -> Result<usize, Refusal> {
+        match self.find(container) {
+            Ok(_) => Err(Refusal::AlreadyHeld),
+            Err(_) if self.held.len() >= MOST_HELD => Err(Refusal::Full),
+            Err(place) => Ok(place),
+        }
     }
 
     /// The place of a container, or the place where it would go.

@@ -4,10 +4,12 @@
 use compare::comparison::{self, Comparison};
 use compare::generate::plan::Plan;
 use compare::generate::sheets::{self, KINDS};
+use compare::generate::weighings::EDGES;
 use compare::prng::Prng;
-use compare::sheet::{self, END};
+use compare::sheet::{self, END, Frame};
 use compare::subject::{Independent, Subject};
-use compare::{buffer, report};
+use compare::weights::Weighing;
+use compare::{buffer, patterns, report};
 
 /// The independent implementation with one call changed.
 #[derive(Clone, Copy)]
@@ -22,6 +24,8 @@ enum Fault {
     Pair(fn(u32, u32) -> i64),
     Mixing(fn(&[u32], u32) -> i64),
     Calls(fn(&[u8], &mut [u8]) -> i64),
+    Tenths(fn(u32) -> i64),
+    Weighed(fn(&Weighing) -> i64),
 }
 
 impl Subject for Fault {
@@ -60,6 +64,14 @@ impl Subject for Fault {
     fn calls(&self, list: &[u8], buf: &mut [u8]) -> Option<i64> {
         Some(if let Self::Calls(calls) = self { calls(list, buf) } else { calls(list, buf) })
     }
+
+    fn tenths(&self, bits: u32) -> Option<i64> {
+        Some(if let Self::Tenths(tenths) = self { tenths(bits) } else { tenths(bits) })
+    }
+
+    fn weighed(&self, weighing: &Weighing) -> Option<i64> {
+        Some(if let Self::Weighed(weighed) = self { weighed(weighing) } else { weighed(weighing) })
+    }
 }
 
 fn judge(sheet: &[u8], buf: &mut [u8]) -> i64 {
@@ -90,6 +102,14 @@ fn mixing(results: &[u32], tolerated: u32) -> i64 {
     Independent.mixing(results, tolerated)
 }
 
+fn tenths(bits: u32) -> i64 {
+    Independent.tenths(bits).expect("it has the call")
+}
+
+fn weighed(weighing: &Weighing) -> i64 {
+    Independent.weighed(weighing).expect("it has the call")
+}
+
 /// The differences that a comparison of some thousand inputs finds.
 fn differences(fault: &Fault) -> usize {
     let mut found = Comparison::default();
@@ -97,8 +117,14 @@ fn differences(fault: &Fault) -> usize {
         Fault::Text(_) | Fault::Judge(_) | Fault::Rewrite(_) => {
             comparison::sheets(7, 8_000, &Independent, fault, &mut found);
         }
-        Fault::Samples(_) | Fault::Label(_) | Fault::Pair(_) | Fault::Mixing(_) => {
+        Fault::Samples(_) | Fault::Label(_) | Fault::Pair(_) | Fault::Mixing(_) | Fault::Weighed(_) => {
             comparison::beside(7, 2_000, &Independent, fault, &mut found);
+        }
+        Fault::Tenths(_) => {
+            for edge in EDGES.map(u64::from) {
+                let around = edge.saturating_sub(1_000)..edge + 1_000;
+                patterns::compare(around, &Independent, fault, &mut found);
+            }
         }
         Fault::Calls(_) => comparison::lists(7, 100, &Independent, fault, &mut found),
     }
@@ -116,13 +142,45 @@ fn lines(sheet: &[u8], change: impl Fn(&[&str]) -> Option<String>) -> String {
     changed.concat()
 }
 
+/// The frame of a sheet's line, counted from 1 as a refusal tells it.
+fn frame_at(sheet: &[u8], line: &str) -> Option<Frame> {
+    let place = line.parse::<usize>().ok()?.checked_sub(1)?;
+    Frame::parse(sheet.split(|&byte| byte == END).nth(place)?)
+}
+
+/// The weighing that a refused line has.
+fn weighing_at(sheet: &[u8], line: &str) -> Option<Weighing> {
+    match frame_at(sheet, line)? {
+        Frame::Weighed { weighing, .. } => Some(weighing),
+        _ => None,
+    }
+}
+
+/// The sheet with its weighings changed, or taken for something else.
+fn with_weighings(sheet: &[u8], change: impl Fn(u16, Weighing) -> Option<Frame>) -> Vec<u8> {
+    let lines = sheet.split_inclusive(|&byte| byte == END);
+    let changed = lines.map(|line| match line.strip_suffix(&[END]).and_then(Frame::parse) {
+        Some(Frame::Weighed { container, weighing }) => {
+            let mut written = Vec::new();
+            change(container, weighing).inspect(|frame| frame.write(&mut written));
+            if written.is_empty() { line.to_vec() } else { written }
+        }
+        _ => line.to_vec(),
+    });
+    changed.collect::<Vec<_>>().concat()
+}
+
+fn has_weighings(sheet: &[u8]) -> bool {
+    sheet.split(|&byte| byte == END).any(|line| matches!(Frame::parse(line), Some(Frame::Weighed { .. })))
+}
+
 fn by_printed_value(name: &str, words: &[&str]) -> Option<String> {
     let &[first, value, limit, _] = words else { return None };
     let (left, right): (f64, f64) = (value.parse().ok()?, limit.parse().ok()?);
     (first == name).then(|| format!("{name} {value} {limit} {}", if left > right { "over" } else { "kept" }))
 }
 
-const FAULTS: [(&str, Fault); 21] = [
+const FAULTS: [(&str, Fault); 34] = [
     ("lower case taken", Fault::Text(|sheet| sheet::printed(&sheet.to_ascii_uppercase()))),
     (
         "byte 0D passed over",
@@ -225,8 +283,9 @@ const FAULTS: [(&str, Fault); 21] = [
         "results written in the order they came",
         Fault::Rewrite(|sheet, buf| {
             let answer = rewrite(sheet, buf);
-            if answer > 0 {
-                buf[..sheet.len()].copy_from_slice(sheet);
+            // A sheet with weighed results is longer than what is written for it.
+            if let Some(text) = buf.get_mut(..sheet.len()).filter(|_| answer > 0) {
+                text.copy_from_slice(sheet);
             }
             answer
         }),
@@ -279,11 +338,119 @@ const FAULTS: [(&str, Fault); 21] = [
             answer
         }),
     ),
+    (
+        "the sign of minus zero not seen",
+        Fault::Text(|sheet| {
+            let unsigned = |bits| if bits == 1 << 31 { 0 } else { bits };
+            sheet::printed(&with_weighings(sheet, |container, weighing| {
+                let [component, remainder] = [weighing.component, weighing.remainder].map(unsigned);
+                Some(Frame::Weighed { container, weighing: Weighing { component, remainder, ..weighing } })
+            }))
+        }),
+    ),
+    (
+        "the weights looked at before the status",
+        Fault::Text(|sheet| {
+            lines(sheet, |words| match words {
+                ["REFUSED", "18", line] => {
+                    let weighing = Weighing { status: 0, ..weighing_at(sheet, line)? };
+                    weighing.x().is_err().then(|| format!("REFUSED 19 {line}"))
+                }
+                _ => None,
+            })
+        }),
+    ),
+    (
+        "the status looked at before the container",
+        Fault::Text(|sheet| {
+            lines(sheet, |words| match words {
+                ["REFUSED", "6" | "8" | "9", line] => {
+                    let unsteady = weighing_at(sheet, line)?.status != 0;
+                    unsteady.then(|| format!("REFUSED 18 {line}"))
+                }
+                _ => None,
+            })
+        }),
+    ),
+    (
+        "a status above 02 taken for a bad line",
+        Fault::Text(|sheet| {
+            lines(sheet, |words| match words {
+                ["REFUSED", "18", line] => {
+                    (weighing_at(sheet, line)?.status > 2).then(|| format!("REFUSED 1 {line}"))
+                }
+                _ => None,
+            })
+        }),
+    ),
+    (
+        "weighed results taken for any attribute",
+        Fault::Text(|sheet| {
+            sheet::printed(&with_weighings(sheet, |container, weighing| {
+                weighing.x().ok().map(|x| Frame::Result { container, x })
+            }))
+        }),
+    ),
+    (
+        "weighed results not counted in 06",
+        Fault::Text(|sheet| {
+            let text = sheet::printed(sheet);
+            let end = sheet.iter().filter(|&&byte| byte == END).count();
+            if text.starts_with('N') && has_weighings(sheet) { format!("REFUSED 14 {end}\n") } else { text }
+        }),
+    ),
+    (
+        "no sheet read that is longer than any written",
+        Fault::Rewrite(|sheet, buf| {
+            let answer = rewrite(sheet, buf);
+            if sheet.len() > sheet::LONGEST_WRITTEN && answer > 0 { -1 } else { answer }
+        }),
+    ),
+    (
+        "share rounded down",
+        Fault::Weighed(|weighing| match weighed(weighing) {
+            x @ 0.. => {
+                let [component, remainder] = [weighing.component, weighing.remainder].map(tenths);
+                x.min(10_000 * component / (component + remainder))
+            }
+            refused => refused,
+        }),
+    ),
+    (
+        "share of the weights before they are rounded",
+        Fault::Weighed(|weighing| match weighed(weighing) {
+            0.. => {
+                let [component, remainder] =
+                    [weighing.component, weighing.remainder].map(|bits| f64::from(f32::from_bits(bits)));
+                (10_000.0 * component / (component + remainder)).round() as i64
+            }
+            refused => refused,
+        }),
+    ),
+    (
+        "a status of 256 taken for 0",
+        Fault::Weighed(|weighing| weighed(&Weighing { status: weighing.status & 0xFF, ..*weighing })),
+    ),
+    (
+        "tenths by the machine's product",
+        Fault::Tenths(|bits| match tenths(bits) {
+            0.. => (f32::from_bits(bits) * 10_000.0).round() as i64,
+            refused => refused,
+        }),
+    ),
+    (
+        "tenths half to even",
+        Fault::Tenths(|bits| match tenths(bits) {
+            0.. => (f64::from(f32::from_bits(bits)) * 10_000.0).round_ties_even() as i64,
+            refused => refused,
+        }),
+    ),
+    ("1000 g itself too heavy", Fault::Tenths(|bits| if bits == 0x447A_0000 { -19 } else { tenths(bits) })),
 ];
 
 #[test]
 fn an_implementation_agrees_with_itself() {
-    for same in [Fault::Text(sheet::printed), Fault::Pair(pair), Fault::Calls(calls)] {
+    for same in [Fault::Text(sheet::printed), Fault::Pair(pair), Fault::Calls(calls), Fault::Tenths(tenths)] {
         assert_eq!(differences(&same), 0);
     }
 }
@@ -327,4 +494,31 @@ fn every_length_from_none_to_some_thousand_is_made() {
     assert!(lengths.contains(&0) && lengths.contains(&1));
     assert!(lengths.iter().any(|&length| length > 5_000));
     assert!(lengths.contains(&sheet::LONGEST_WRITTEN));
+    assert!(lengths.contains(&sheet::LONGEST_READ));
+}
+
+#[test]
+fn weighed_results_reach_each_of_their_answers() {
+    let mut found = Comparison::default();
+    comparison::lists(5, 400, &Independent, &Independent, &mut found);
+    for number in [0, 2, 6, 8, 9, 18, 19] {
+        let times = found.reached.get(&format!("list weigh {number}")).copied().unwrap_or(0);
+        assert!(times >= 5, "{number}: {times}");
+    }
+    let (mut accepted, mut refused) = (0, [0; 20]);
+    let mut prng = Prng::new(5);
+    for at in 0..20_000 {
+        let sheet = sheets::sheet(&mut prng, KINDS[at % KINDS.len()]);
+        match sheet::read(&sheet) {
+            Ok(_) => accepted += usize::from(has_weighings(&sheet)),
+            Err(fault) if weighing_at(&sheet, &fault.line.to_string()).is_some() => {
+                refused[usize::from(fault.refusal.number())] += 1;
+            }
+            Err(_) => {}
+        }
+    }
+    assert!(accepted >= 2_000, "accepted: {accepted}");
+    for number in [2, 6, 8, 9, 18, 19] {
+        assert!(refused[number] >= 20, "{number}: {}", refused[number]);
+    }
 }

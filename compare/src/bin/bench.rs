@@ -10,7 +10,9 @@ use std::time::Instant;
 
 use compare::calls::Call;
 use compare::card::Row;
+use compare::generate::entry::Entry;
 use compare::generate::plan::Plan;
+use compare::generate::weighings;
 use compare::ours::Ours;
 use compare::prng::Prng;
 use compare::sheet::LONGEST_WRITTEN;
@@ -30,6 +32,10 @@ fn main() {
     let full: Vec<_> = (0..SHEETS).map(|_| Plan::full(&mut prng)).collect();
     sheet_line("60 results, 96 rows, 56 critical values", &full);
     sheet_line("the same, one sheet again and again", &full[..1]);
+    // What is weighed has a seed of its own: the other sheets stay those of earlier measurements.
+    let mut balance = Prng::new(2);
+    let weighed: Vec<_> = (0..SHEETS).map(|_| Plan::full_weighed(&mut balance)).collect();
+    sheet_line("60 weighed, 96 rows, 56 critical values", &weighed);
     println!();
     for held in [5, 20, 60] {
         let plans: Vec<_> = (0..SHEETS).map(|_| plain(&mut prng, held)).collect();
@@ -37,7 +43,8 @@ fn main() {
     }
     println!();
     beside_lines(&mut prng);
-    list_lines(&mut prng);
+    weighed_line(&mut balance);
+    list_lines(&mut prng, &mut balance);
 }
 
 /// A sheet of purity results with one critical value and one row, so that only the results grow.
@@ -49,7 +56,7 @@ fn plain(prng: &mut Prng, held: usize) -> Plan {
     plan.criticals = vec![(held as u16, 155)];
     plan.rows = vec![Row { lowest: 5, highest: 60, mean_bound: 10_000, tolerated: 200 }];
     for (place, result) in plan.results.iter_mut().enumerate() {
-        *result = (1 + place as u16 * 16, 9_800 - prng.below(200) as u16);
+        *result = Entry::entered(1 + place as u16 * 16, 9_800 - prng.below(200) as u16);
     }
     plan
 }
@@ -85,6 +92,14 @@ fn beside_lines(prng: &mut Prng) {
     }
 }
 
+/// X of two weights, over a thousand pairs of them.
+fn weighed_line(prng: &mut Prng) {
+    let weighings: Vec<_> = (0..1_000).map(|_| weighings::of_share(prng, 9_800)).collect();
+    line("weighed  any two weights", weighings.len(), |subject| {
+        weighings.iter().map(|weighing| subject.weighed(black_box(weighing))).sum()
+    });
+}
+
 fn pairs_line(name: &str, pairs: &[(u32, u32)], call: fn(&dyn Subject, u32, u32) -> i64) {
     line(name, pairs.len(), |subject| {
         Some(pairs.iter().map(|&(first, second)| call(subject, black_box(first), second)).sum())
@@ -92,7 +107,7 @@ fn pairs_line(name: &str, pairs: &[(u32, u32)], call: fn(&dyn Subject, u32, u32)
 }
 
 /// The calls on a tally, each as the time of a list with the call many times less that of the list without it.
-fn list_lines(prng: &mut Prng) {
+fn list_lines(prng: &mut Prng, balance: &mut Prng) {
     println!();
     if Ours.calls(&[], &mut []).is_none() {
         println!("calls on a tally: the library has no such call");
@@ -108,7 +123,11 @@ fn list_lines(prng: &mut Prng) {
         let opened = open(0, &plan);
         let entered = [opened.clone(), enters(0, &plan.results)].concat();
         call_line(&format!("enter    the 1st to the {held}th"), held, &opened, &entered);
-        let withdrawn = plan.results.iter().map(|&(container, _)| Call::Withdraw { on: 0, container });
+        let mut by_weight = plan.clone();
+        by_weight.weigh(balance, 1, weighings::of_share);
+        let weighed = [opened.clone(), enters(0, &by_weight.results)].concat();
+        call_line(&format!("weigh    the 1st to the {held}th"), held, &opened, &weighed);
+        let withdrawn = plan.results.iter().map(|entry| Call::Withdraw { on: 0, container: entry.container });
         let emptied = [entered.clone(), withdrawn.collect()].concat();
         call_line(&format!("withdraw {held} held, down to none"), held, &entered, &emptied);
         let other = [open(1, &plan), enters(1, &plan.results)].concat();
@@ -126,8 +145,8 @@ fn open(on: usize, plan: &Plan) -> Vec<Call> {
     vec![Call::Open { on, lot: plan.lot, card: Box::new(plan.card()) }]
 }
 
-fn enters(on: usize, results: &[(u16, u16)]) -> Vec<Call> {
-    results.iter().map(|&(container, x)| Call::Enter { on, container, x }).collect()
+fn enters(on: usize, results: &[Entry]) -> Vec<Call> {
+    results.iter().map(|entry| entry.call(on)).collect()
 }
 
 /// Measures the `number` calls that `with` has and `without` has not, and prints a line for one of them.

@@ -13,20 +13,14 @@ use std::{env, io};
 
 use compare::comparison::{self, Comparison};
 use compare::programs;
-use compare::subject::{Independent, Subject};
-
-#[cfg(feature = "ours")]
-const SUBJECT: (&str, &dyn Subject) = ("the proved library", &compare::ours::Ours);
-#[cfg(not(feature = "ours"))]
-const SUBJECT: (&str, &dyn Subject) =
-    ("no library linked: the independent implementation itself", &Independent);
+use compare::subject::{Independent, OTHER};
 
 fn main() -> io::Result<ExitCode> {
     let mut words = env::args().skip(1).map(|word| word.parse::<u64>());
     let mut word = |otherwise: u64| words.next().unwrap_or(Ok(otherwise)).expect("the arguments are numbers");
     let (sheets, lists, seed) = (word(400_000) as usize, word(20_000) as usize, word(1));
 
-    let (name, subject) = SUBJECT;
+    let (name, subject) = OTHER;
     let mut found = Comparison::default();
     comparison::sheets(seed, sheets, &Independent, subject, &mut found);
     comparison::beside(seed, sheets / 4, &Independent, subject, &mut found);

@@ -2,7 +2,9 @@
 
 use crate::calls::Call;
 use crate::card::{Card, HIGHEST_X, Lot, MOST_ROWS};
+use crate::generate::entry::Entry;
 use crate::generate::plan::Plan;
+use crate::generate::weighings;
 use crate::prng::Prng;
 use crate::refusal::Refusal;
 use crate::report;
@@ -40,10 +42,11 @@ struct Followed<'a> {
 /// Makes a list of up to some hundred calls.
 pub fn list(prng: &mut Prng, form: Form) -> List {
     let held = prng.pick(&[0, 1, 5, 20, 60]);
-    let mut plan = Plan::judged(prng, held);
+    // Every other list is of purity, so that what is weighed can be held.
+    let mut plan = if prng.once_in(2) { Plan::weighed(prng, held) } else { Plan::judged(prng, held) };
     if prng.once_in(2) {
         // Few containers, so that the two tallies meet often.
-        let least = plan.results.iter().map(|result| result.0).max().unwrap_or(1);
+        let least = plan.results.iter().map(|entry| entry.container).max().unwrap_or(1);
         plan.lot.containers = least.max(prng.pick(&[5, 20, 61, 70, 120]));
     }
     if form == Form::Text {
@@ -79,6 +82,7 @@ impl Followed<'_> {
                 10..=13 => self.report(on),
                 14 => self.write(on),
                 15 => self.fill(on),
+                16..=23 => self.weigh(on),
                 _ => self.enter(on),
             }
         }
@@ -163,7 +167,13 @@ impl Followed<'_> {
         self.make(Call::Enter { on, container, x });
     }
 
-    /// Enters until a number close to 60, or to 60 for both together, is held.
+    fn weigh(&mut self, on: usize) {
+        let container = self.some_container(on);
+        let weighing = weighings::any(self.prng);
+        self.make(Call::Weigh { on, container, weighing });
+    }
+
+    /// Enters or weighs until a number close to 60, or to 60 for both together, is held.
     fn fill(&mut self, on: usize) {
         let other = self.tallies[1 - on].held().len();
         let wanted =
@@ -178,7 +188,13 @@ impl Followed<'_> {
             let container = if on == 0 { 1 + step } else { last - step };
             if free(&self.tallies[on], container) {
                 let x = self.some_x();
-                self.make(Call::Enter { on, container, x });
+                let weighed = self.tallies[on].lot().attribute == 0 && self.prng.once_in(2);
+                let entry = if weighed {
+                    Entry::weighed(container, weighings::of_share(self.prng, x.min(HIGHEST_X)))
+                } else {
+                    Entry::entered(container, x)
+                };
+                self.make(entry.call(on));
             }
         }
     }
@@ -216,7 +232,7 @@ impl Followed<'_> {
         match self.prng.below(12) {
             0 => self.prng.near(&[0, 2, 20, 100, 9_900, 9_980, HIGHEST_X, 65_535]),
             1..=4 if !self.plan.results.is_empty() => {
-                self.plan.results[self.prng.below(self.plan.results.len())].1
+                self.plan.results[self.prng.below(self.plan.results.len())].x()
             }
             5..=8 => self.prng.within(0..=20),
             _ => self.prng.within(9_000..=HIGHEST_X),

@@ -1,6 +1,8 @@
 //! Numbers for the calls beside the tally.
 
+use crate::generate::weighings::{self, EDGES};
 use crate::prng::Prng;
+use crate::weights::Weighing;
 
 /// Numbers at the ends of the types and of the tables.
 const ENDS: [u32; 12] = [0, 1, 2, 100, 101, 500, 501, 502, 65_535, 65_536, u32::MAX / 2, u32::MAX];
@@ -52,6 +54,20 @@ pub fn components(prng: &mut Prng) -> (Vec<u32>, u32) {
     let tolerated =
         prng.pick(&[range.saturating_sub(1), range, range, range.saturating_add(1), 0, 10_000, u32::MAX]);
     (results, tolerated)
+}
+
+/// Every two of the edges, statuses of one bit each and at the ends, and some of any kind.
+pub fn weighings(prng: &mut Prng, number: usize) -> Vec<Weighing> {
+    let with = |component| EDGES.iter().map(move |&remainder| weighings::steady(component, remainder));
+    let mut all: Vec<Weighing> = EDGES.iter().flat_map(|&component| with(component)).collect();
+    let one = weighings::steady(0x3F80_0000, 0x3F80_0000);
+    all.extend((0..32).map(|bit| Weighing { status: 1 << bit, ..one }));
+    all.extend(ENDS.iter().map(|&status| Weighing { status, ..one }));
+    for _ in 0..number {
+        let x = prng.within(0..=10_000);
+        all.extend([weighings::any(prng), weighings::accepted(prng, x), weighings::of_share(prng, x)]);
+    }
+    all
 }
 
 fn every(firsts: std::ops::Range<u32>, seconds: std::ops::Range<u32>) -> Vec<(u32, u32)> {

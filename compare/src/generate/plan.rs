@@ -1,6 +1,8 @@
 //! A plan: the values of a sheet before they are written, good ones or not.
 
 use crate::card::{Card, HIGHEST_X, Lot, MOST_ROWS, Row};
+use crate::generate::entry::{Balance, Entry};
+use crate::generate::weighings;
 use crate::prng::Prng;
 use crate::report;
 use crate::sheet::Frame;
@@ -18,8 +20,8 @@ pub struct Plan {
     /// N and value, in sheet order.
     pub criticals: Vec<(u16, u16)>,
     pub rows: Vec<Row>,
-    /// Container and X, in sheet order.
-    pub results: Vec<(u16, u16)>,
+    /// In sheet order.
+    pub results: Vec<Entry>,
     /// What the 06 frame says where it is not the number of results.
     pub count: Option<u16>,
 }
@@ -28,6 +30,10 @@ impl Plan {
     /// A good plan with the given number of results and no critical values or rows.
     pub fn with_results(prng: &mut Prng, held: usize) -> Self {
         let attribute = prng.below(3) as u16;
+        Self::of_attribute(prng, attribute, held)
+    }
+
+    fn of_attribute(prng: &mut Prng, attribute: u16, held: usize) -> Self {
         let least = held.max(1) as u16;
         let containers = match prng.below(3) {
             0 => prng.near(&LOT_SIZES).max(least),
@@ -51,20 +57,28 @@ impl Plan {
         };
         let sum = plan.some_sum(prng, held);
         let xs = spread(prng, held, sum);
-        plan.results = containers_for(prng, containers, held).into_iter().zip(xs).collect();
+        let containers = containers_for(prng, containers, held);
+        plan.results =
+            containers.into_iter().zip(xs).map(|(container, x)| Entry::entered(container, x)).collect();
         plan
     }
 
     /// A good plan with critical values and rows that lie close to what the report works out.
     pub fn judged(prng: &mut Prng, held: usize) -> Self {
         let mut plan = Self::with_results(prng, held);
-        plan.add_criticals(prng);
-        let rows = match prng.below(4) {
-            0 => 0,
-            1 => prng.below(MOST_ROWS + 1),
-            _ => prng.below(6),
-        };
-        plan.add_rows(prng, rows);
+        plan.add_card(prng);
+        plan
+    }
+
+    /// The same of purity, with some or all of the results weighed.
+    pub fn weighed(prng: &mut Prng, held: usize) -> Self {
+        let mut plan = Self::of_attribute(prng, 0, held);
+        let times = prng.pick(&[1, 1, 2, 5]);
+        let balances: [Balance; 4] =
+            [weighings::of_share, weighings::of_share, weighings::of_share, weighings::accepted];
+        let balance = prng.pick(&balances);
+        plan.weigh(prng, times, balance);
+        plan.add_card(prng);
         plan
     }
 
@@ -86,8 +100,8 @@ impl Plan {
             };
             plan.seeds = seeds;
             let highs = prng.below(held) + 1;
-            for (place, (_, x)) in plan.results.iter_mut().enumerate() {
-                *x = if place < highs { high } else { low };
+            for (place, entry) in plan.results.iter_mut().enumerate() {
+                *entry = Entry::entered(entry.container, if place < highs { high } else { low });
             }
             let exact = plan.tally().and_then(|tally| report::exact_h(&tally));
             if exact.is_some_and(|h| h.numerator > 0 && 2 * h.numerator % h.denominator == 0) {
@@ -100,16 +114,49 @@ impl Plan {
         plan
     }
 
-    /// The largest good sheet: every critical value, 96 rows and 60 results.
+    /// The largest good sheet that is written: every critical value, 96 rows and 60 results.
     pub fn full(prng: &mut Prng) -> Self {
         let mut plan = Self::with_results(prng, MOST_HELD);
-        plan.add_criticals(prng);
-        let near = plan.criticals.clone();
-        plan.criticals = (5..=60)
+        plan.fill_card(prng);
+        plan
+    }
+
+    /// The largest good sheet that is read: the same with all results weighed.
+    pub fn full_weighed(prng: &mut Prng) -> Self {
+        let mut plan = Self::of_attribute(prng, 0, MOST_HELD);
+        plan.weigh(prng, 1, weighings::of_share);
+        plan.fill_card(prng);
+        plan
+    }
+
+    /// Has the results weighed, one in `times` of them.
+    pub fn weigh(&mut self, prng: &mut Prng, times: usize, balance: Balance) {
+        for entry in &mut self.results {
+            if prng.once_in(times) {
+                *entry = Entry::weighed(entry.container, balance(prng, entry.x()));
+            }
+        }
+    }
+
+    /// Adds critical values, and no, some or many rows.
+    fn add_card(&mut self, prng: &mut Prng) {
+        self.add_criticals(prng);
+        let rows = match prng.below(4) {
+            0 => 0,
+            1 => prng.below(MOST_ROWS + 1),
+            _ => prng.below(6),
+        };
+        self.add_rows(prng, rows);
+    }
+
+    /// Adds every critical value and 96 rows.
+    fn fill_card(&mut self, prng: &mut Prng) {
+        self.add_criticals(prng);
+        let near = self.criticals.clone();
+        self.criticals = (5..=60)
             .map(|n| (n, near.iter().find(|critical| critical.0 == n).map_or(n * 7, |critical| critical.1)))
             .collect();
-        plan.add_rows(prng, MOST_ROWS);
-        plan
+        self.add_rows(prng, MOST_ROWS);
     }
 
     /// A sum of X for `held` results, often one at a limit of the mean.
@@ -156,7 +203,7 @@ impl Plan {
     /// Adds rows whose bounds lie close to N, the mean and R.
     pub fn add_rows(&mut self, prng: &mut Prng, rows: usize) {
         let held = (self.results.len() as u16).clamp(5, 60);
-        let xs = || self.results.iter().map(|result| result.1);
+        let xs = || self.results.iter().map(Entry::x);
         let sum: usize = xs().map(usize::from).sum();
         let mean = (sum / self.results.len().max(1)) as u16;
         let range = xs().max().unwrap_or(0) - xs().min().unwrap_or(0);
@@ -188,7 +235,7 @@ impl Plan {
         ];
         frames.extend(self.criticals.iter().map(|&(n, value)| Frame::Critical { n, value }));
         frames.extend(self.rows.iter().map(|&row| Frame::Range(row)));
-        frames.extend(self.results.iter().map(|&(container, x)| Frame::Result { container, x }));
+        frames.extend(self.results.iter().map(Entry::frame));
         frames.push(Frame::End { count: self.count.unwrap_or(self.results.len() as u16) });
         frames
     }
@@ -221,8 +268,8 @@ impl Plan {
     pub fn tally(&self) -> Option<Tally> {
         let mut tally = Tally::fresh();
         tally.open(&self.lot, &self.card()).ok()?;
-        for &(container, x) in &self.results {
-            tally.enter(container, x).ok()?;
+        for entry in &self.results {
+            entry.enter(&mut tally).ok()?;
         }
         Some(tally)
     }

@@ -1,7 +1,9 @@
 //! Sheets: good ones, ones with a wrong value, out of order, damaged, and mere bytes.
 
 use crate::card::{HIGHEST_X, Lot, MOST_ROWS, Row};
+use crate::generate::entry::Entry;
 use crate::generate::plan::Plan;
+use crate::generate::weighings;
 use crate::prng::Prng;
 use crate::sheet::{END, Frame};
 use crate::tally::MOST_HELD;
@@ -13,7 +15,10 @@ pub enum Kind {
     Exact,
     Full,
     Few,
+    Weighed,
+    WeighedFull,
     WrongValue,
+    WrongWeighing,
     WrongOrder,
     Damaged,
     Frames,
@@ -22,7 +27,7 @@ pub enum Kind {
 }
 
 /// All kinds, those more often made more often named.
-pub const KINDS: [Kind; 16] = [
+pub const KINDS: [Kind; 22] = [
     Kind::Good,
     Kind::Good,
     Kind::Good,
@@ -30,9 +35,15 @@ pub const KINDS: [Kind; 16] = [
     Kind::Exact,
     Kind::Full,
     Kind::Few,
+    Kind::Weighed,
+    Kind::Weighed,
+    Kind::WeighedFull,
     Kind::WrongValue,
     Kind::WrongValue,
     Kind::WrongValue,
+    Kind::WrongValue,
+    Kind::WrongWeighing,
+    Kind::WrongWeighing,
     Kind::WrongOrder,
     Kind::Damaged,
     Kind::Damaged,
@@ -44,21 +55,26 @@ pub const KINDS: [Kind; 16] = [
 /// A sheet of the given kind.
 pub fn sheet(prng: &mut Prng, kind: Kind) -> Vec<u8> {
     match kind {
-        Kind::Good => {
-            let held = number_held(prng);
-            Plan::judged(prng, held).sheet()
-        }
+        Kind::Good => judged(prng).sheet(),
         Kind::Exact => Plan::exact(prng).sheet(),
         Kind::Full => Plan::full(prng).sheet(),
         Kind::Few => {
             let held = prng.below(6);
-            Plan::judged(prng, held).sheet()
+            let make = if prng.once_in(3) { Plan::weighed } else { Plan::judged };
+            make(prng, held).sheet()
         }
+        Kind::Weighed => weighed(prng).sheet(),
+        Kind::WeighedFull => Plan::full_weighed(prng).sheet(),
         Kind::WrongValue => {
             let mut plan = some_plan(prng);
             for _ in 0..prng.pick(&[1, 1, 1, 1, 2, 3]) {
                 spoil(prng, &mut plan);
             }
+            plan.sheet()
+        }
+        Kind::WrongWeighing => {
+            let mut plan = weighed(prng);
+            spoil_weighing(prng, &mut plan);
             plan.sheet()
         }
         Kind::WrongOrder => wrong_order(prng),
@@ -80,19 +96,30 @@ fn number_held(prng: &mut Prng) -> usize {
     if prng.once_in(3) { prng.pick(&[5, 9, 10, 11, 59, MOST_HELD]) } else { 5 + prng.below(MOST_HELD - 4) }
 }
 
+/// A good plan of any attribute.
+fn judged(prng: &mut Prng) -> Plan {
+    let held = number_held(prng);
+    Plan::judged(prng, held)
+}
+
+/// A good plan of purity with weighed results.
+fn weighed(prng: &mut Prng) -> Plan {
+    let held = number_held(prng);
+    Plan::weighed(prng, held)
+}
+
 /// A good plan, short more often than long so that a fault falls on each part of it.
 fn some_plan(prng: &mut Prng) -> Plan {
-    match prng.below(6) {
+    match prng.below(9) {
         0 => Plan::full(prng),
         1 => Plan::exact(prng),
         2 => {
             let held = prng.below(5);
             Plan::judged(prng, held)
         }
-        _ => {
-            let held = number_held(prng);
-            Plan::judged(prng, held)
-        }
+        3 => Plan::full_weighed(prng),
+        4 | 5 => weighed(prng),
+        _ => judged(prng),
     }
 }
 
@@ -157,8 +184,8 @@ fn spoil_results(prng: &mut Prng, plan: &mut Plan) {
         let mut container = 0;
         while plan.results.len() < MOST_HELD && container < plan.lot.containers {
             container += 1;
-            if plan.results.iter().all(|result| result.0 != container) {
-                plan.results.push((container, prng.within(0..=HIGHEST_X)));
+            if plan.results.iter().all(|entry| entry.container != container) {
+                plan.results.push(Entry::entered(container, prng.within(0..=HIGHEST_X)));
             }
         }
     }
@@ -166,11 +193,21 @@ fn spoil_results(prng: &mut Prng, plan: &mut Plan) {
     let x = prng.pick(&[0, 1, HIGHEST_X, HIGHEST_X + 1, 65_535]);
     let container = match prng.below(5) {
         0 => prng.pick(&[0, last, last.saturating_add(1), 65_535]),
-        1 if !plan.results.is_empty() => plan.results[prng.below(plan.results.len())].0,
+        1 if !plan.results.is_empty() => plan.results[prng.below(plan.results.len())].container,
         _ => prng.within(1..=last.max(1)),
     };
     let place = if prng.once_in(2) { plan.results.len() } else { prng.below(plan.results.len() + 1) };
-    plan.results.insert(place, (container, x));
+    // A weighed one also in sheets that are not of purity.
+    let weighed = prng.once_in(2).then(|| weighings::in_frame(prng));
+    let entered = Entry::entered(container, x);
+    plan.results.insert(place, weighed.map_or(entered, |weighing| Entry::weighed(container, weighing)));
+}
+
+/// Gives one container, which no other result is for, any weighing, bad or not.
+fn spoil_weighing(prng: &mut Prng, plan: &mut Plan) {
+    let place = prng.below(plan.results.len());
+    let entry = &mut plan.results[place];
+    *entry = Entry::weighed(entry.container, weighings::in_frame(prng));
 }
 
 /// The frames of a good plan with some moved, left out, doubled or put in.
@@ -205,9 +242,12 @@ fn written(frames: &[Frame]) -> Vec<u8> {
 
 /// A frame of any kind with values at their limits.
 fn some_frame(prng: &mut Prng) -> Frame {
-    let kind = prng.below(6) as u8 + 1;
+    let kind = prng.below(7) as u8 + 1;
     frame_of(prng, kind)
 }
+
+/// Containers of a frame drawn for itself.
+const CONTAINERS: [u16; 11] = [0, 1, 2, 3, 4, 5, 6, 7, 60, 61, 65_535];
 
 fn frame_of(prng: &mut Prng, kind: u8) -> Frame {
     match kind {
@@ -228,9 +268,15 @@ fn frame_of(prng: &mut Prng, kind: u8) -> Frame {
             tolerated: prng.draw() as u16,
         }),
         5 => Frame::Result {
-            container: prng.pick(&[0, 1, 2, 3, 4, 5, 6, 7, 60, 61, 65_535]),
+            container: prng.pick(&CONTAINERS),
             x: prng.pick(&[0, 2, 100, 9_800, 9_980, 10_000, 10_001]),
         },
+        7 => {
+            let container = prng.pick(&CONTAINERS);
+            let often = weighings::of_share(prng, 9_800);
+            let weighing = if prng.once_in(3) { weighings::in_frame(prng) } else { often };
+            Frame::Weighed { container, weighing }
+        }
         _ => Frame::End { count: prng.pick(&[0, 1, 2, 3, 4, 5, 60, 255]) },
     }
 }
@@ -240,7 +286,9 @@ fn frames_at_random(prng: &mut Prng) -> Vec<u8> {
     let mut kind = 1;
     let mut frames = Vec::new();
     for _ in 0..prng.pick(&[2, 6, 12, 40, 160]) {
-        frames.push(frame_of(prng, kind));
+        // A weighed result stands where a result may.
+        let weighed = kind == 5 && prng.once_in(2);
+        frames.push(frame_of(prng, if weighed { 7 } else { kind }));
         kind = match kind {
             _ if prng.once_in(20) => prng.below(6) as u8 + 1,
             1 => 2,
@@ -297,6 +345,10 @@ fn long(prng: &mut Prng) -> Vec<u8> {
     sheet
 }
 
+/// What is put behind a sheet's end: lines, good ones or not, and parts of lines.
+const BEHIND: [&[u8]; 8] =
+    [b"\n", b"0", b"0605\n", b"0605", b"zz\n", b"\r\n", b"07\n", b"070001003F8000003F800000\n"];
+
 /// Damages a sheet's bytes or lines once.
 fn damage(prng: &mut Prng, sheet: &mut Vec<u8>) {
     if sheet.is_empty() {
@@ -321,30 +373,23 @@ fn damage(prng: &mut Prng, sheet: &mut Vec<u8>) {
             }
         }
         7 => {
-            // A byte 0D before one line's end, or before each.
             let once = prng.once_in(2);
-            let mut done = false;
-            *sheet = sheet
-                .iter()
-                .enumerate()
-                .flat_map(|(at, &byte)| {
-                    let here = byte == END && (!once || at >= place && !done);
-                    done |= here && once;
-                    if here { vec![b'\r', byte] } else { vec![byte] }
-                })
-                .collect();
+            *sheet = with_returns(sheet, once.then_some(place));
         }
-        8 => sheet.extend_from_slice(prng.pick(&[
-            &b"\n"[..],
-            b"0",
-            b"0605\n",
-            b"0605",
-            b"zz\n",
-            b"\r\n",
-            b"07\n",
-        ])),
+        8 => sheet.extend_from_slice(prng.pick(&BEHIND)),
         _ => damage_lines(prng, sheet),
     }
+}
+
+/// The sheet with a byte 0D before each line's end, or before the first one from a place on.
+fn with_returns(sheet: &[u8], from: Option<usize>) -> Vec<u8> {
+    let mut done = false;
+    let doubled = sheet.iter().enumerate().flat_map(|(at, &byte)| {
+        let here = byte == END && from.is_none_or(|place| at >= place && !done);
+        done |= here && from.is_some();
+        if here { vec![b'\r', byte] } else { vec![byte] }
+    });
+    doubled.collect()
 }
 
 fn damage_lines(prng: &mut Prng, sheet: &mut Vec<u8>) {
