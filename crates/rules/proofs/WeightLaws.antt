@@ -6,20 +6,23 @@ use Prim.Native.Nat.{ℕ, _+_, _-_, _*_, _/_, _%_, _^_, _≤_, _<_}
 use native.Mathlib.Nat.{mul-comm, le-of-mul-le-mul-right, le-trans, le-of-lt, lt-of-lt-of-le, mul-le-mul, mul-le-mul-right, div-eq-of-lt, div-lt-iff-lt-mul, mul-div-mul-right, mul-assoc}
 use native.Mathlib.Decide.{decLe}
 use native.Mathlib.Omega.{arith}
-use lib.Dec.{T, eqb, ltb, lit<, lit≤}
+use lib.Dec.{T, eqb, leb, ltb, lit<, lit≤}
 use lib.IntN.{ℤ}
 use lib.Ieee.{Float, nan, fin, binary32, up, down, fits, isNan, ofBits, toBits}
 use lib.Ieee.Fits.{down-pos}
 use lib.Ieee.Exact.{HasValue}
 use lib.Ieee.Bits.{nanBits-is, nanBits-above, toBits-ofBits, ofBits-toBits}
 use lib.Pow.{pow-pos, pow-mono, pow-add}
-use borrow.Author.Tests.{ltb-true, lt-ltb, le-ltb, le-leb, lt-leb, ne-eqb, eq-eqb, eqb-true}
-use Rattle.rules.specs.Choice.{pick}
+use borrow.Author.Tests.{ltb-true, lt-ltb, le-ltb, le-leb, lt-leb, ne-eqb, eq-eqb, eqb-true, eqb-false}
+use Rattle.rules.specs.Choice.{pick, unless}
 use Rattle.rules.specs.Rounding.{Nearest, nearestOf}
 use Rattle.rules.specs.Fields.{fieldOf}
 use Rattle.rules.specs.Frames.{floatOf}
-use Rattle.rules.specs.Limits.{highestX}
+use Rattle.rules.specs.Limits.{mostHeld, highestX}
 use Rattle.rules.specs.Numbers.{shareAnswer}
+use Rattle.rules.specs.Attributes.{isWeighed}
+use Rattle.rules.specs.Contents.{isHeld}
+use Rattle.rules.specs.Ledger.{Ledger, containers, held, weighNumber}
 use Rattle.rules.specs.Floats.{negative, exponentField, fractionField, finite, significand, exactOf}
 use Rattle.rules.specs.Weighing.{Shared, EveryWeight}
 use Rattle.rules.specs.Weights.{tooHeavy, badWeight, nearestTenths, tenthsOf, ratioOf, shareBy, shareOf, weighedOf, weighingOf}
@@ -252,3 +255,22 @@ weighing-low status p = by (weighedOf status b d) refl
     by (Hundredths x) e = weighed-is status b d x e .1 .within
     by NotSteady e = omega arith
     by BadWeight e = omega arith
+
+-- so a weigh is never refused with 7
+other-number : (a b c d : Bool) (w : ℕ) → (w ≡ 7 → ⊥) → let n = pick {A = ℕ} b 6 (pick false 7 (pick c 8 (pick d 9 0))) in unless a 2 (pick (eqb n 0) w n) ≡ 7 → ⊥
+other-number false b c d w h e = eqb-false 2 7 refl e
+other-number true true c d w h e = eqb-false 6 7 refl e
+other-number true false true d w h e = eqb-false 8 7 refl e
+other-number true false false true w h e = eqb-false 9 7 refl e
+other-number true false false false w h e = h e
+
+weighing-other : (r : Share) → shareAnswer r .number ≡ 7 → ⊥
+weighing-other (Hundredths x) = eqb-false 0 7 refl
+weighing-other NotSteady = eqb-false 18 7 refl
+weighing-other BadWeight = eqb-false 19 7 refl
+
+pub never-too-high : (g : Ledger) (c status : ℕ) (p : Pans) → weighNumber g c (weighingOf status p) ≡ 7 → ⊥
+never-too-high g c status p e =
+    let low = le-ltb highestX (weighingOf status p .value) (weighing-low status p) in
+    other-number (isWeighed (g .lot .attribute)) (eqb c 0 || ltb (containers g) c) (isHeld (g .contents c)) (leb mostHeld (held g)) (weighingOf status p .number)
+    (weighing-other (weighedOf status (toBits binary32 (p .component)) (toBits binary32 (p .remainder)))) (rw low at e)
