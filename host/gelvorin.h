@@ -64,7 +64,8 @@ uint64_t gelvorin_weighed(uint32_t status, uint32_t component, uint32_t remainde
 uint64_t gelvorin_judge(const uint8_t *sheet, size_t length, uint8_t *buffer, size_t size);
 
 /* Reads a sheet and writes it back: its frames in their order, the results in ascending container order, each as 05, weighed or not.
- * 2629 bytes are room for every sheet that is written; a sheet that is read has up to 3469. Answers the length of what was written to the front of the buffer; the bytes behind it stay as they were.
+ * 2629 bytes are room for every sheet that is written; one that is read has up to 3469. Answers the length of what was written to the
+ * front of the buffer; the bytes behind it stay as they were.
  * Refused with the number of the sheet's first fault (1 to 9, 14, 18, 19), or with 16, buffer short; then the buffer stays as it was. */
 uint64_t gelvorin_rewrite(const uint8_t *sheet, size_t length, uint8_t *buffer, size_t size);
 
