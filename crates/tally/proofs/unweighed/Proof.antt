@@ -3,7 +3,7 @@ use mathlib.Core.Path.{ap, _∙_}
 use Prim.Native.Nat.{ℕ}
 use borrow.Author.Needs.{needs}
 use Rattle.rules.specs.Numbers.{numberOf}
-use Rattle.tally.specs.Calls.{firstOf}
+use Rattle.rules.specs.Ledger.{firstOf}
 use Rattle.tally.proofs.unweighed.Statement.{statement}
 use Rattle.tally.proofs.unweighed.Tie as tie
 
