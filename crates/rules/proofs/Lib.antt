@@ -5,6 +5,7 @@ pub mod CardLaws
 pub mod LedgerLaws
 pub mod EveryStage
 pub mod Taken
+pub mod Cases
 pub mod Marked
 pub mod RoundingLaws
 pub mod TextLaws

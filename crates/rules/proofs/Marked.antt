@@ -2,34 +2,10 @@
 -- calls with their answers. Assumes nothing.
 use mathlib.Core.Path.{_≡_, refl}
 use mathlib.Core.List.{List, [], _∷_}
-use Prim.Native.Nat.{ℕ}
-use Prim.Native.String.{String}
-use Rattle.rules.specs.Text.{text, decimals, decimal, lastDigits, pointed}
 use Rattle.rules.specs.Numbers.{gives}
-use Rattle.rules.specs.Contents.{total, largest, smallest}
-use Rattle.rules.specs.Cards.{rowsGood, criticalsGood}
-use Rattle.rules.specs.Rounding.{nearestOf}
-use Rattle.rules.specs.Attributes.{isVoid, meanScale}
-use Rattle.rules.specs.Figures.{meanOf, ratio, reportedH, exceeds, toleratedUpto}
-use Rattle.rules.specs.Report.{findingsOf, countLine, meanLine, verdictWord, limitText, valueLine, lotWord, lotVerdictLine, findingsText}
-use Rattle.rules.specs.Lines.{cutFrom}
-use Rattle.rules.specs.Fields.{allDigits, valueOf, numberBehind, number, fieldOf}
-use Rattle.rules.specs.Frames.{lotFrame, cardFrame, criticalFrame, rangeFrame, resultFrame, endFrame, kindFrame, frameOf}
-use Rattle.rules.specs.Reading.{lotStep, cardStep, criticalStep, rangeStep, resultStep, endStep, readFrom, readOf}
-use Rattle.rules.specs.Printing.{refusedLine, printedFor}
-use Rattle.rules.specs.Sampling.{samplingOf, samplesOf, table2A, table2B, unitsOf, raised}
-use Rattle.rules.specs.Tolerance.{labelOf, pairOf, differenceFor}
-use Rattle.rules.specs.declared.Answered.{Answered}
-
--- a case: a sheet and what lotreport prints for it, or a call beside the tally and its answer
-pub data Case : Type 0 where
-  prints : String → String → Case
-  answers : Answered → Answered → Case
-
--- what is told: bytes that are printed, or an answer
-pub data Told : Type 0 where
-  printed : List ℕ → Told
-  answered : Answered → Told
+use Rattle.rules.specs.Sampling.{samplingOf}
+use Rattle.rules.specs.Tolerance.{labelOf, pairOf}
+use Rattle.rules.proofs.Cases.{Case, prints, answers, byDefinition, byDocument}
 
 abbrev pub table : List Case
 table =
@@ -81,17 +57,6 @@ table =
     ∷ answers (samplingOf 2 200) (gives 6)
     ∷ []
 
--- what the definitions tell, and what document 01 says
-abbrev pub byDefinition : List Case → List Told
-byDefinition [] = []
-byDefinition (prints sheet says ∷ cs) = printed (printedFor (text sheet)) ∷ byDefinition cs
-byDefinition (answers call says ∷ cs) = answered call ∷ byDefinition cs
-
-abbrev pub byDocument : List Case → List Told
-byDocument [] = []
-byDocument (prints sheet says ∷ cs) = printed (text says) ∷ byDocument cs
-byDocument (answers call says ∷ cs) = answered says ∷ byDocument cs
-
 pub marked : byDefinition table ≡ byDocument table
-unfolding printedFor readOf readFrom cutFrom frameOf kindFrame lotFrame cardFrame criticalFrame rangeFrame resultFrame endFrame allDigits fieldOf number numberBehind valueOf lotStep cardStep criticalStep rangeStep resultStep endStep total largest smallest rowsGood criticalsGood refusedLine findingsText findingsOf countLine meanLine valueLine lotVerdictLine lotWord limitText verdictWord pointed decimal decimals lastDigits meanOf meanScale isVoid ratio reportedH exceeds toleratedUpto nearestOf samplesOf table2A table2B unitsOf raised differenceFor
+unfolding byDefinition
 marked = refl

@@ -2,24 +2,10 @@
 use mathlib.Core.Path.{_≡_, refl}
 use mathlib.Core.List.{List, [], _∷_}
 use Prim.Native.Nat.{ℕ}
-use lib.Ieee.{ofFields, ofBits, toBits}
-use Rattle.rules.specs.Text.{decimals, decimal, lastDigits, pointed}
 use Rattle.rules.specs.Numbers.{gives, refuses, weightAnswer, shareAnswer}
-use Rattle.rules.specs.Contents.{total, largest, smallest}
-use Rattle.rules.specs.Cards.{rowsGood, criticalsGood}
-use Rattle.rules.specs.Rounding.{nearestOf}
-use Rattle.rules.specs.Floats.{exactOf}
-use Rattle.rules.specs.Weights.{badWeight, tenthsOf, ratioOf, shareOf, weighedOf}
-use Rattle.rules.specs.Attributes.{isVoid, meanScale}
-use Rattle.rules.specs.Figures.{meanOf, ratio, reportedH, exceeds, toleratedUpto}
-use Rattle.rules.specs.Report.{findingsOf, countLine, meanLine, verdictWord, limitText, valueLine, lotWord, lotVerdictLine, findingsText}
-use Rattle.rules.specs.Lines.{cutFrom}
-use Rattle.rules.specs.Fields.{allDigits, valueOf, numberBehind, number, fieldOf}
-use Rattle.rules.specs.Frames.{lotFrame, cardFrame, criticalFrame, rangeFrame, resultFrame, endFrame, balanceFrame, kindFrame, frameOf}
-use Rattle.rules.specs.Reading.{lotStep, cardStep, criticalStep, rangeStep, resultStep, balanceStep, endStep, readFrom, readOf}
-use Rattle.rules.specs.Printing.{refusedLine, printedFor}
+use Rattle.rules.specs.Weights.{tenthsOf, weighedOf}
 use Rattle.rules.specs.declared.Answered.{Answered}
-use Rattle.rules.proofs.Marked.{Case, prints, answers, byDefinition, byDocument}
+use Rattle.rules.proofs.Cases.{Case, prints, answers, byDefinition, byDocument}
 
 -- a weight by its bits
 abbrev weight : ℕ → Answered
@@ -99,5 +85,5 @@ weighedTable =
     ∷ []
 
 pub weighed : byDefinition weighedTable ≡ byDocument weighedTable
-unfolding printedFor readOf readFrom cutFrom frameOf kindFrame lotFrame cardFrame criticalFrame rangeFrame resultFrame endFrame balanceFrame allDigits fieldOf number numberBehind valueOf lotStep cardStep criticalStep rangeStep resultStep balanceStep endStep total largest smallest rowsGood criticalsGood refusedLine findingsText findingsOf countLine meanLine valueLine lotVerdictLine lotWord limitText verdictWord pointed decimal decimals lastDigits meanOf meanScale isVoid ratio reportedH exceeds toleratedUpto nearestOf weighedOf shareOf tenthsOf ratioOf badWeight exactOf ofFields ofBits toBits
+unfolding byDefinition
 weighed = refl
