@@ -29,7 +29,7 @@ fn together(a: Tried, b: Tried) -> Tried {
 fn main() {
     let handbook = sheets::group(b'h', 4);
     print_group(b"sheets of the handbook (002, 10.2): ", handbook);
-    let misleading = sheets::group(b'm', 6);
+    let misleading = sheets::group(b'm', 9);
     print_group(b"sheets that mislead: ", misleading);
     let vectors = sheets::group(b'v', 220);
     print_group(b"sheets of the vectors: ", vectors);

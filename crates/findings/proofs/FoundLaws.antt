@@ -4,7 +4,7 @@ use native.Mathlib.Omega.{arith}
 use mathlib.Core.Path.{_≡_, refl}
 use mathlib.Core.Bool.{Bool, true, false}
 use Rattle.rules.specs.Limits.{mostRows}
-use Rattle.rules.specs.Attributes.{isVoid, meanPlaces}
+use Rattle.rules.specs.Attributes.{isVoid, meanPlaces, meanScale}
 use Rattle.rules.specs.Figures.{meanOf, ratio, criticalFor, toleratedUpto, together}
 use Rattle.rules.specs.Report.{noValue, findingsOf}
 use Rattle.rules.specs.declared.Attribute.{Attribute}
@@ -29,10 +29,11 @@ module _ (a : Attribute) (c : Card) (f : Figures) (places mean : ℕ) (b : Bool)
   void-found e x y = rw (p, m, x, y, ← v, e) refl
 
   -- a card has no more rows than it has places
-  pub values-found : (q : Fraction) (critical tolerated : Limit) (lot : Verdict) → b ≡ false → c .rows ≤ mostRows
+  pub values-found : (q : Fraction) (critical tolerated : Limit) (scale : ℕ) (lot : Verdict) → b ≡ false → c .rows ≤ mostRows
       → q ≡ ratio a (c .head) f → critical ≡ criticalFor c (f .count) → h ≡ hAgainst q (c .head .offset) critical
-      → tolerated ≡ toleratedUpto c (f .count) (f .sum) (min (c .rows) mostRows) → r ≡ rAgainst a f tolerated → lot ≡ together (h .verdict) (r .verdict)
+      → scale ≡ meanScale a (f .count) → tolerated ≡ toleratedUpto c (f .count) (record { over = mean; under = scale }) (min (c .rows) mostRows)
+      → r ≡ rAgainst a f tolerated → lot ≡ together (h .verdict) (r .verdict)
       → findings f places mean false h r lot ≡ findingsOf a c f
   unfolding findingsOf
-  values-found q critical tolerated lot e k x y z w u o =
-      let all : min (c .rows) mostRows ≡ c .rows = omega arith in rw (p, m, o, z, u, x, y, w, all, ← v, e) refl
+  values-found q critical tolerated scale lot e k x y z i w u o =
+      let all : min (c .rows) mostRows ≡ c .rows = omega arith in rw (p, o, z, u, x, y, w, m, i, all, ← v, e) refl

@@ -1,10 +1,12 @@
 -- The bounds of the numbers on the way to H, and H from its division. Assumes nothing.
 use Prim.Native.Nat.{ℕ, _+_, _-_, _*_, _^_, _≤_, _<_}
 use native.Mathlib.Omega.{arith}
+use native.Mathlib.Decide.{decLe}
 use native.Mathlib.Nat.{mul-le-mul, mul-le-mul-right, div-le-self, div-lt-iff-lt-mul}
 use mathlib.Core.Path.{_≡_, refl, ap}
 use mathlib.Core.Bool.{Bool, true, false}
 use Rattle.rules.specs.Limits.{highestX, mostFactor, mostSeeds}
+use Rattle.rules.specs.Rounding.{nearestOf}
 use Rattle.rules.specs.Attributes.{isVoid}
 use Rattle.rules.specs.Figures.{deviation, ratio, reportedH, exceeds, verdictBy, verdictOn}
 use Rattle.rules.specs.Spread.{HeadWithin}
@@ -15,6 +17,7 @@ use Rattle.rules.specs.declared.Figures.{Figures}
 use Rattle.rules.specs.declared.Fraction.{Fraction}
 use Rattle.rules.specs.declared.Limit.{Limit}
 use Rattle.rules.specs.declared.Limit.the-variants.{Absent, At}
+use Rattle.rules.proofs.RoundingLaws.{low}
 use Rattle.rules.proofs.SpreadLaws.{highestH, ratio-le, under-positive}
 use Rattle.rounding.specs.Dividing.{Workable, workable, divisionOf, isAbove}
 use Rattle.rounding.proofs.DividingLaws.{workable-of, above-is}
@@ -90,6 +93,16 @@ module _ (f : Figures) (m : Served f) where
 pub mean-workable : (scale s n : ℕ) → scale ≤ 100 → 1 ≤ n → s < 2 ^ 32 → n < 2 ^ 16 → workable scale s n ≡ true
 mean-workable scale s n h k a b =
     workable-of scale s n (record { scale = h; positive = k; under = omega arith; whole = omega (arith, div-le-self s n) })
+
+-- and the mean, which is at most the highest result, has no more than two places beside those of X
+pub mean-most : (scale s n : ℕ) → scale ≤ 100 → 1 ≤ n → s ≤ highestX * n → nearestOf (scale * s) n ≤ 100 * highestX
+mean-most scale s n h k l = by (decLe (nearestOf (scale * s) n) (100 * highestX))
+  where
+    by : Dec (nearestOf (scale * s) n ≤ 100 * highestX) → nearestOf (scale * s) n ≤ 100 * highestX
+    by (yes p) = p
+    by (no p) =
+        let m : 100 * highestX + 1 ≤ nearestOf (scale * s) n = omega arith in
+        absurd (omega (arith, low (scale * s) n k, mul-le-mul-right n m, mul-le-mul h l))
 
 verdict-same : (p q : ℕ → Bool) (l : Limit) → ((v : ℕ) → p v ≡ q v) → verdictOn p l ≡ verdictOn q l
 verdict-same p q Absent h = refl

@@ -96,7 +96,7 @@ found-few : (a : Attribute) (c : Card) (f : Figures) → FewPlaces (findingsOf a
 unfolding findingsOf
 found-few a c f = by (isVoid a (f .count) (f .sum))
   where
-    by : (b : Bool) → FewPlaces (pick b (foundWith a f true noValue noValue Undecided) (foundWith a f false (valueH a c f) (valueR a c f) (together (verdictH a c f) (verdictR c f))))
+    by : (b : Bool) → FewPlaces (pick b (foundWith a f true noValue noValue Undecided) (foundWith a f false (valueH a c f) (valueR a c f) (together (verdictH a c f) (verdictR a c f))))
     by true = record { mean = mean-places-most a (f .count); h = omega arith; r = omega arith }
     by false = record { mean = mean-places-most a (f .count); h = omega arith; r = places-most a }
 

@@ -16,11 +16,12 @@ use Rattle.rules.specs.Numbers.{TextAnswer, reportedAnswer, wrote, refusesText}
 use Rattle.rules.specs.Text.{laid, laidIn}
 use Rattle.rules.specs.Attributes.{attributeOf}
 use Rattle.rules.specs.Cards.{cutToRows}
-use Rattle.rules.specs.Figures.{rowServes, toleratedUpto}
+use Rattle.rules.specs.Figures.{printedMean, rowServes, toleratedUpto}
 use Rattle.rules.specs.Report.{findingsOf, findingsText, reportOf}
 use Rattle.rules.specs.declared.Attribute.{Attribute}
 use Rattle.rules.specs.declared.Card.{Card}
 use Rattle.rules.specs.declared.Figures.{Figures}
+use Rattle.rules.specs.declared.Fraction.{Fraction}
 use Rattle.rules.specs.declared.Findings.{Findings}
 use Rattle.rules.specs.declared.Reported.{Reported}
 use Rattle.rules.specs.declared.Reported.the-variants.{TooFew}
@@ -37,19 +38,19 @@ use Rattle.report.specs.Reports.{Reports}
 use Rattle.report.proofs.Sound.{walked, figures-are, sound-reportable}
 
 -- ---- the card's places past the last row do not matter
-serves-cut : (c : Card) (k n s : ℕ) → k < c .rows → rowServes (cutToRows c) k n s ≡ rowServes c k n s
-serves-cut c k n s h =
+serves-cut : (c : Card) (k n : ℕ) (mean : Fraction) → k < c .rows → rowServes (cutToRows c) k n mean ≡ rowServes c k n mean
+serves-cut c k n mean h =
     rw (getD-take (c .rows) (c .lowest) k 0 h, getD-take (c .rows) (c .highest) k 0 h, getD-take (c .rows) (c .bound) k 0 h) refl
 
-tolerated-cut : (c : Card) (n s k : ℕ) → k ≤ c .rows → toleratedUpto (cutToRows c) n s k ≡ toleratedUpto c n s k
+tolerated-cut : (c : Card) (n : ℕ) (mean : Fraction) (k : ℕ) → k ≤ c .rows → toleratedUpto (cutToRows c) n mean k ≡ toleratedUpto c n mean k
 unfolding toleratedUpto
-tolerated-cut c n s zero h = refl
-tolerated-cut c n s (suc k) h =
-    simp (tolerated-cut c n s k (omega arith), serves-cut c k n s h, getD-take (c .rows) (c .tolerated) k 0 h)
+tolerated-cut c n mean zero h = refl
+tolerated-cut c n mean (suc k) h =
+    simp (tolerated-cut c n mean k (omega arith), serves-cut c k n mean h, getD-take (c .rows) (c .tolerated) k 0 h)
 
 findings-cut : (a : Attribute) (c : Card) (f : Figures) → findingsOf a (cutToRows c) f ≡ findingsOf a c f
 unfolding findingsOf
-findings-cut a c f = simp (tolerated-cut c (f .count) (f .sum) (c .rows) (le-refl (c .rows)))
+findings-cut a c f = simp (tolerated-cut c (f .count) (printedMean a f) (c .rows) (le-refl (c .rows)))
 
 -- ---- what is found
 reportable-of : (b : Bool) (x s : Findings) → pick b (Reportable x) NotReportable ≡ Reportable s → (b ≡ true) × (x ≡ s)

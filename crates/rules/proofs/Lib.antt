@@ -10,9 +10,11 @@ pub mod Marked
 pub mod RoundingLaws
 pub mod TextLaws
 pub mod SpreadLaws
+pub mod RowLaws
 pub mod LineLaws
 pub mod FieldLaws
 pub mod FloatLaws
 pub mod WeightLaws
 pub mod Weighed
+pub mod PrintedMeans
 pub mod Bounds

@@ -67,7 +67,7 @@ impl Attribute {
     }
 
     // How many units of the mean's last place make one unit of X.
-    pub fn mean_scale(self, n: u16) -> u64
+    pub fn mean_scale(self, n: u16) -> u16
         ensures { λ r. ⌜ (r ≡ meanScale self n) × (r ≤ 100) ⌝ }
     {
         match self {

@@ -23,12 +23,12 @@ pub fn critical_at(v: u32) -> Limit
     Limit::At(v - 1)
 }
 
-// Whether a row serves n results with the sum s.
-fn serves(lowest: u16, highest: u16, bound: u16, n: u16, s: u32) -> bool
-    ensures { λ r. ⌜ r ≡ leb lowest n && (leb n highest && leb s (bound * n)) ⌝ }
+// Whether a row serves n results with a mean of mean / scale.
+fn serves(lowest: u16, highest: u16, bound: u16, n: u16, mean: u32, scale: u16) -> bool
+    ensures { λ r. ⌜ r ≡ leb lowest n && (leb n highest && leb mean (bound * scale)) ⌝ }
 {
-    let most = bound as u32 * n as u32;
-    (lowest <= n) & ((n <= highest) & (s <= most))
+    let most = bound as u32 * scale as u32;
+    (lowest <= n) & ((n <= highest) & (mean <= most))
 }
 
 fn limit_at(v: u16) -> Limit
@@ -37,16 +37,16 @@ fn limit_at(v: u16) -> Limit
     Limit::At(v as u32)
 }
 
-// The tolerated R of the first row, in the card's order, that serves n results with the sum s. A card has no row past MOST_ROWS,
-// whatever number of rows it gives.
-pub fn tolerated_for(c: Card, n: u16, s: u32) -> Limit
-    ensures { λ r. ⌜ r ≡ toleratedUpto c n s (min (c .rows) mostRows) ⌝ }
+// The tolerated R of the first row, in the card's order, that serves n results with a mean of mean / scale: of mean units, of which
+// scale make one unit of X. A card has no row past MOST_ROWS, whatever number of rows it gives.
+pub fn tolerated_for(c: Card, n: u16, mean: u32, scale: u16) -> Limit
+    ensures { λ r. ⌜ r ≡ toleratedUpto c n (record { over = mean; under = scale }) (min (c .rows) mostRows) ⌝ }
 {
     let mut left = checks::least(c.rows, MOST_ROWS);
     let mut k: usize = 0;
     while 0 < left {
         left -= 1;
-        if serves(c.lowest[k], c.highest[k], c.bound[k], n, s) {
+        if serves(c.lowest[k], c.highest[k], c.bound[k], n, mean, scale) {
             return limit_at(c.tolerated[k]);
         }
         k += 1;

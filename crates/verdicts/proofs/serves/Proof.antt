@@ -10,7 +10,7 @@ use Rattle.verdicts.proofs.serves.Tie as tie
 mul-most : tie.Need-mul-most
 mul-most c =
     let h : c .args .bound ≤ widest = omega arith in
-    let k : c .args .n ≤ widest = omega arith in
+    let k : c .args .scale ≤ widest = omega arith in
     omega (arith, mul-le-mul h k)
 
 pub serves-spec : {M : Type 1} → statement M

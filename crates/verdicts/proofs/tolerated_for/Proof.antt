@@ -10,10 +10,10 @@ use Rattle.verdicts.proofs.tolerated_for.Statement.{statement}
 use Rattle.verdicts.proofs.tolerated_for.Tie as tie
 
 abbrev Inv-loop : tie.InvT-loop
-Inv-loop n s c left₀ k₀ left k = (k + left ≡ min (c .rows) mostRows) × (Absent ≡ toleratedUpto c n s k)
+Inv-loop n mean scale c left₀ k₀ left k = (k + left ≡ min (c .rows) mostRows) × (Absent ≡ toleratedUpto c n (record { over = mean; under = scale }) k)
 
 abbrev μ-loop : tie.MeasureT-loop
-μ-loop n s c left₀ k₀ left k = left
+μ-loop n mean scale c left₀ k₀ left k = left
 
 loop-holds : tie.Need-loop-holds Inv-loop μ-loop
 loop-holds c = (omega (arith, c .least .ensures), none-yet _ _ _)

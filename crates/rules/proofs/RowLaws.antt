@@ -1,0 +1,141 @@
+-- What the row by the printed mean changes against the exact mean. Assumes nothing.
+use mathlib.Core.Path.{_≡_, refl, sym, ap, _∙_}
+use mathlib.Core.Bool.{Bool, true, false, _&&_, true≢false}
+use Prim.Native.Nat.{ℕ, zero, suc, _+_, _-_, _*_, _≤_, _<_}
+use native.Mathlib.Nat.{mul-le-mul-left, mul-le-mul-right}
+use native.Mathlib.Decide.{decLe}
+use native.Mathlib.Omega.{arith}
+use lib.Dec.{leb}
+use lib.ListN.{getD}
+use borrow.Author.Tests.{le-leb, lt-leb, leb-true}
+use Rattle.rules.specs.Attributes.{meanScale}
+use Rattle.rules.specs.Figures.{meanOf, printedMean, rowServes, toleratedUpto, toleratedFor}
+use Rattle.rules.specs.Rows.{exactMean, JustBelow, RowByPrintedMean}
+use Rattle.rules.specs.declared.Attribute.{Attribute}
+use Rattle.rules.specs.declared.Attribute.the-variants.{Purity, Germination, Count}
+use Rattle.rules.specs.declared.Card.{Card}
+use Rattle.rules.specs.declared.Figures.{Figures}
+use Rattle.rules.specs.declared.Fraction.{Fraction}
+use Rattle.rules.proofs.Tests.{and-left, and-right, and-both}
+use Rattle.rules.proofs.RoundingLaws.{low, high}
+
+-- ---- a bound is at least the printed mean exactly where the exact mean is less than half a unit above it
+module _ (a : Attribute) (f : Figures) (bound : ℕ) (pos : 1 ≤ f .count) where
+  abbrev scale : ℕ
+  scale = meanScale a (f .count)
+
+  served : meanOf a f ≤ bound * scale → 2 * (scale * f .sum) < 2 * (scale * (bound * f .count)) + f .count
+  unfolding meanOf
+  served h = omega (arith, high (scale * f .sum) (f .count) pos, mul-le-mul-right (f .count) h)
+
+  serves : 2 * (scale * f .sum) < 2 * (scale * (bound * f .count)) + f .count → meanOf a f ≤ bound * scale
+  unfolding meanOf
+  serves h = by (decLe (meanOf a f) (bound * scale))
+    where
+      by : Dec (meanOf a f ≤ bound * scale) → meanOf a f ≤ bound * scale
+      by (yes p) = p
+      by (no p) =
+          let k : bound * scale + 1 ≤ meanOf a f = omega arith in
+          absurd (omega (arith, low (scale * f .sum) (f .count) pos, mul-le-mul-right (f .count) k))
+
+  -- the mean by its distance from the bound
+  from-bound : bound * f .count ≤ f .sum → scale * f .sum ≡ scale * (bound * f .count) + scale * (f .sum - bound * f .count)
+  from-bound h =
+      let e : f .sum ≡ bound * f .count + (f .sum - bound * f .count) = omega arith in
+      omega (arith, ap (λ (x : ℕ). scale * x) e)
+
+  exact-serves : f .sum ≤ bound * f .count → meanOf a f ≤ bound * scale
+  exact-serves h = serves (omega (arith, mul-le-mul-left scale h))
+
+  just-below : meanOf a f ≤ bound * scale → bound * f .count < f .sum → JustBelow a f bound
+  just-below h k = record { below = k; near = omega (arith, served h, from-bound (omega arith)) }
+
+  just-below-serves : JustBelow a f bound → meanOf a f ≤ bound * scale
+  just-below-serves j = serves (omega (arith, j .near, from-bound (omega (arith, j .below))))
+
+-- ---- rows
+module _ (a : Attribute) (c : Card) (f : Figures) (k : ℕ) (pos : 1 ≤ f .count) where
+  abbrev bound : ℕ
+  bound = getD (c .bound) k 0
+
+  -- N is within the two bounds of a row that serves, and the mean at most the third
+  within : (m : Fraction) → rowServes c k (f .count) m ≡ true
+      → (leb (getD (c .lowest) k 0) (f .count) ≡ true) × (leb (f .count) (getD (c .highest) k 0) ≡ true) × (m .over ≤ bound * m .under)
+  within m e =
+      let t = and-right (leb (getD (c .lowest) k 0) (f .count)) _ e in (
+        and-left (leb (getD (c .lowest) k 0) (f .count)) _ e,
+        and-left (leb (f .count) (getD (c .highest) k 0)) _ t,
+        leb-true (m .over) (bound * m .under) (and-right (leb (f .count) (getD (c .highest) k 0)) _ t),
+      )
+
+  row-serves : (m : Fraction) → leb (getD (c .lowest) k 0) (f .count) ≡ true → leb (f .count) (getD (c .highest) k 0) ≡ true → m .over ≤ bound * m .under
+      → rowServes c k (f .count) m ≡ true
+  row-serves m p q h = and-both p (and-both q (le-leb (m .over) (bound * m .under) h))
+
+  row-still : rowServes c k (f .count) (exactMean f) ≡ true → rowServes c k (f .count) (printedMean a f) ≡ true
+  row-still e = let w = within (exactMean f) e in row-serves (printedMean a f) (w .0) (w .1) (exact-serves a f bound pos (w .2))
+
+  row-gained : rowServes c k (f .count) (printedMean a f) ≡ true → rowServes c k (f .count) (exactMean f) ≡ false → JustBelow a f bound
+  row-gained e n = by (decLe (f .sum) (bound * f .count))
+    where
+      by : Dec (f .sum ≤ bound * f .count) → JustBelow a f bound
+      by (yes p) = let w = within (printedMean a f) e in absurd (true≢false (sym (row-serves (exactMean f) (w .0) (w .1) p) ∙ n))
+      by (no p) = just-below a f bound pos (within (printedMean a f) e .2) (omega arith)
+
+  row-every : getD (c .lowest) k 0 ≤ f .count → f .count ≤ getD (c .highest) k 0 → JustBelow a f bound
+      → (rowServes c k (f .count) (printedMean a f) ≡ true) × (rowServes c k (f .count) (exactMean f) ≡ false)
+  row-every l h j = (
+    row-serves (printedMean a f) (le-leb _ _ l) (le-leb _ _ h) (just-below-serves a f bound pos j),
+    by (rowServes c k (f .count) (exactMean f)) refl,
+  )
+    where
+      by : (t : Bool) → rowServes c k (f .count) (exactMean f) ≡ t → t ≡ false
+      by true e = absurd (omega (arith, within (exactMean f) e .2, j .below))
+      by false e = refl
+
+  row-same : (JustBelow a f bound → ⊥) → rowServes c k (f .count) (printedMean a f) ≡ rowServes c k (f .count) (exactMean f)
+  row-same h = by (rowServes c k (f .count) (printedMean a f)) (rowServes c k (f .count) (exactMean f)) refl refl
+    where
+      by : (x y : Bool) → rowServes c k (f .count) (printedMean a f) ≡ x → rowServes c k (f .count) (exactMean f) ≡ y → x ≡ y
+      by true true p q = refl
+      by true false p q = absurd (h (row-gained p q))
+      by false true p q = absurd (true≢false (sym (row-still q) ∙ p))
+      by false false p q = refl
+
+-- ---- the tolerated R
+upto-same : (c : Card) (n : ℕ) (m e : Fraction) (j : ℕ) → ((k : ℕ) → k < j → rowServes c k n m ≡ rowServes c k n e)
+    → toleratedUpto c n m j ≡ toleratedUpto c n e j
+unfolding toleratedUpto
+upto-same c n m e zero h = refl
+upto-same c n m e (suc j) h = rw (upto-same c n m e j (λ k l. h k (omega arith)), h j (omega arith)) refl
+
+-- ---- where no bound lies just below the mean
+never : (a : Attribute) (f : Figures) (bound : ℕ) → f .count ≤ 2 * meanScale a (f .count) → JustBelow a f bound → ⊥
+never a f bound h j =
+    let k : 1 ≤ f .sum - bound * f .count = omega (arith, j .below) in
+    omega (arith, j .near, mul-le-mul-left (2 * meanScale a (f .count)) k)
+
+scale-of-counts : (n : ℕ) → n ≤ 200 → n ≤ 2 * meanScale Count n
+unfolding meanScale
+scale-of-counts n h = by (decLe 10 n)
+  where
+    by : Dec (10 ≤ n) → n ≤ 2 * meanScale Count n
+    by (yes p) = rw (le-leb 10 n p) h
+    by (no p) = rw (lt-leb 10 n (omega arith)) (omega arith)
+
+scale-from-ten : (a : Attribute) (n : ℕ) → 10 ≤ n → 10 ≤ meanScale a n
+unfolding meanScale
+scale-from-ten Purity n h = rw (le-leb 10 n h) (omega arith)
+scale-from-ten Germination n h = rw (le-leb 10 n h) (omega arith)
+scale-from-ten Count n h = rw (le-leb 10 n h) (omega arith)
+
+pub row-by-printed-mean : RowByPrintedMean
+row-by-printed-mean =
+    record {
+      still = row-still;
+      gained = row-gained;
+      every = row-every;
+      same = λ a c f pos none. upto-same c (f .count) (printedMean a f) (exactMean f) (c .rows) (λ k l. row-same a c f k pos (none k l));
+      counts = λ f bound h. never Count f bound (scale-of-counts (f .count) h);
+      tens = λ a f bound h l. never a f bound (omega (arith, scale-from-ten a (f .count) h));
+    }
