@@ -52,6 +52,11 @@ impl Attribute {
         let places = if self.is_percentage() { 2 } else { 1 };
         if held < 10 { places } else { places + 1 }
     }
+
+    /// How many units of the last place of the mean of `held` results one unit of X has.
+    pub fn mean_scale(self, held: usize) -> u128 {
+        10u128.pow(self.mean_places(held) - self.places())
+    }
 }
 
 /// A lot as given: the attribute is still a number, since a call can give any.
@@ -72,7 +77,7 @@ impl Lot {
     }
 }
 
-/// A range row: for `lowest` to `highest` results with a mean of at most `mean_bound`.
+/// A range row: for `lowest` to `highest` results with a printed mean of at most `mean_bound`.
 #[derive(Clone, Copy, Debug, Default, PartialEq, Eq)]
 pub struct Row {
     pub lowest: u16,
@@ -87,6 +92,11 @@ impl Row {
             && self.lowest <= self.highest
             && self.highest <= MOST_ON_CARD
             && self.mean_bound <= HIGHEST_X
+    }
+
+    /// Whether the row is for so many results, whatever their mean.
+    pub fn is_for(&self, held: usize) -> bool {
+        (usize::from(self.lowest)..=usize::from(self.highest)).contains(&held)
     }
 }
 

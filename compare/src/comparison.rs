@@ -3,22 +3,27 @@
 use std::collections::BTreeMap;
 use std::fmt::{self, Write as _};
 
+use crate::apart::Apart;
 use crate::generate::lists::{self, Form};
 use crate::generate::numbers;
 use crate::generate::sheets::{self, KINDS};
 use crate::prng::Prng;
-use crate::sheet::LONGEST_WRITTEN;
+use crate::sheet::{self, LONGEST_WRITTEN};
 use crate::subject::Subject;
 
 /// Differences that are shown in full.
 const SHOWN: usize = 10;
+/// What a report shows that goes by the printed mean where the exact one has another row or none.
+pub const MISSED: &str = "a row that the exact mean would miss";
+/// What a report shows that goes by the exact mean where the printed one is within the limits.
+pub const VOID: &str = "void with a printed mean within the limits";
 /// Bytes on either side of a lent buffer that no call may touch.
 const GUARD: usize = 32;
 
 /// What was compared so far.
 #[derive(Default)]
 pub struct Comparison {
-    pub compared: BTreeMap<&'static str, usize>,
+    pub compared: BTreeMap<String, usize>,
     pub differences: usize,
     /// The first few differences, in words.
     pub shown: Vec<String>,
@@ -27,8 +32,15 @@ pub struct Comparison {
 }
 
 impl Comparison {
-    pub(crate) fn count(&mut self, what: &'static str, number: usize) {
-        *self.compared.entry(what).or_default() += number;
+    pub(crate) fn count(&mut self, what: &str, number: usize) {
+        *self.compared.entry(what.into()).or_default() += number;
+    }
+
+    /// Counts reports, and how many of them show by which mean a program goes.
+    pub(crate) fn count_reports(&mut self, what: &str, apart: &Apart) {
+        self.count(what, apart.reports);
+        self.count(&format!("{what}, of them with {MISSED}"), apart.rows);
+        self.count(&format!("{what}, of them {VOID}"), apart.voids);
     }
 
     pub(crate) fn reach(&mut self, answer: String) {
@@ -42,7 +54,7 @@ impl Comparison {
         }
     }
 
-    fn numbers(&mut self, what: &'static str, left: i64, right: i64, input: impl fmt::Debug) {
+    fn numbers(&mut self, what: &str, left: i64, right: i64, input: impl fmt::Debug) {
         self.count(what, 1);
         let many = matches!(what, "sampling" | "weighed");
         let answer = if many && left > 0 { "a number".into() } else { left.to_string() };
@@ -97,12 +109,17 @@ fn lent(buf: &[u8]) -> &[u8] {
 /// Compares `number` sheets of all kinds, judged and written back, by what calls the subjects have.
 pub fn sheets(seed: u64, number: usize, left: &dyn Subject, right: &dyn Subject, found: &mut Comparison) {
     let mut prng = Prng::new(seed);
+    let mut apart = Apart::default();
     for at in 0..number {
         let sheet = sheets::sheet(&mut prng, KINDS[at % KINDS.len()]);
         if let Some(judged) = both(&mut prng, 100, |subject, buf| subject.judge(&sheet, buf), left, right) {
             reach_text(found, &judged);
             found.count("sheets judged", 1);
             judged.compare(found, "judge", &sheet);
+            // A buffer that is too short shows nothing of the report.
+            if let (0.., Ok(read)) = (judged.left.0, sheet::read(&sheet)) {
+                apart.look_at(&read.tally);
+            }
         }
         let rewrite = |subject: &dyn Subject, buf: &mut [u8]| subject.rewrite(&sheet, buf);
         if let Some(written) = both(&mut prng, LONGEST_WRITTEN, rewrite, left, right) {
@@ -113,6 +130,7 @@ pub fn sheets(seed: u64, number: usize, left: &dyn Subject, right: &dyn Subject,
             written.compare(found, "rewrite", &sheet);
         }
     }
+    found.count_reports("reports on sheets", &apart);
 }
 
 /// Makes one call on both subjects, with a lent buffer of some length: ample, as long as the text, one
@@ -176,6 +194,7 @@ pub fn lists(seed: u64, number: usize, left: &dyn Subject, right: &dyn Subject, 
         }
         found.count("lists of calls", 1);
         found.count("calls in lists", list.answers.len());
+        found.count_reports("reports in lists", &list.apart);
         for (name, number) in list.answers {
             found.reach(format!("list {name} {number}"));
         }

@@ -6,6 +6,7 @@ use std::io::{self, Write as _};
 use std::path::Path;
 use std::process::{Command, Stdio};
 
+use crate::apart::Apart;
 use crate::calls::Call;
 use crate::comparison::Comparison;
 use crate::generate::lists::{self, Form};
@@ -21,15 +22,20 @@ const CALLS_READ: usize = 65_536;
 /// Runs lotreport on `number` sheets of all kinds.
 pub fn lotreport(program: &Path, seed: u64, number: usize, found: &mut Comparison) -> io::Result<()> {
     let mut prng = Prng::new(seed);
+    let mut apart = Apart::default();
     for at in 0..number {
         let sheet = sheets::sheet(&mut prng, KINDS[at % KINDS.len()]);
         let written = run(program, &sheet)?;
         found.count("sheets by lotreport", 1);
+        if let Ok(read) = sheet::read(&sheet) {
+            apart.look_at(&read.tally);
+        }
         if written != sheet::printed(&sheet).as_bytes() {
             let [sheet, written] = [&sheet, &written].map(|bytes| String::from_utf8_lossy(bytes));
             found.differ(|| format!("lotreport {sheet:?}\n  {written:?}"));
         }
     }
+    found.count_reports("reports by lotreport", &apart);
     Ok(())
 }
 
@@ -53,16 +59,21 @@ fn calls_input(prng: &mut Prng, found: &mut Comparison) -> (String, String, usiz
     let (mut input, mut expected, mut made) = (String::new(), String::new(), 0);
     // The lists run into each other: the tallies stay as the list before left them.
     let mut tallies = [Tally::fresh(), Tally::fresh()];
+    let mut apart = Apart::default();
     loop {
         let list = lists::list(prng, Form::Text);
         let text: String = list.calls.iter().map(words).collect();
         if input.len() + text.len() > CALLS_READ {
+            found.count_reports("reports by the program", &apart);
             return (input, expected, made);
         }
         input += &text;
         made += list.calls.len();
         for call in &list.calls {
             let answer = written(call, &mut tallies);
+            if let Call::Report { on, .. } = call {
+                apart.look_at(&tallies[*on]);
+            }
             let number = answer.split([' ', '\n']).next().unwrap_or("");
             if answer.contains(" held ") {
                 found.reach(format!("program {} {number}", call.name()));

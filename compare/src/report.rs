@@ -4,7 +4,7 @@ use std::cmp::Ordering;
 use std::fmt::{self, Write as _};
 
 use crate::buffer;
-use crate::card::{Attribute, Card};
+use crate::card::{Attribute, Card, Row};
 use crate::refusal::Refusal;
 use crate::tally::{Held, Tally};
 
@@ -94,9 +94,9 @@ impl Verdict {
 }
 
 /// A number of 10^-places, printed with that many places.
-struct Decimal {
-    value: u128,
-    places: u32,
+pub struct Decimal {
+    pub value: u128,
+    pub places: u32,
 }
 
 impl fmt::Display for Decimal {
@@ -110,36 +110,51 @@ impl fmt::Display for Decimal {
     }
 }
 
+/// Attribute and figures of a tally that holds enough for a report.
+fn reported(tally: &Tally) -> Option<(Attribute, Figures)> {
+    let attribute = Attribute::of(tally.lot().attribute)?;
+    (tally.held().len() >= FEWEST_REPORTED).then(|| (attribute, Figures::of(tally.held())))
+}
+
+/// The same of a tally that is not void either, so that H and R are worked out.
+fn worked_out(tally: &Tally) -> Option<(Attribute, Figures)> {
+    reported(tally).filter(|(attribute, figures)| figures.mean_within(attribute.mean_limits()))
+}
+
 /// The exact H of a tally that is not void and holds enough.
 pub fn exact_h(tally: &Tally) -> Option<ExactH> {
-    let attribute = Attribute::of(tally.lot().attribute)?;
-    let figures = Figures::of(tally.held());
-    let worked_out = tally.held().len() >= FEWEST_REPORTED && figures.mean_within(attribute.mean_limits());
-    worked_out.then(|| ExactH::of(attribute, tally.card(), &figures))
+    worked_out(tally).map(|(attribute, figures)| ExactH::of(attribute, tally.card(), &figures))
+}
+
+/// The mean as the report prints it, void or not.
+pub fn printed_mean(tally: &Tally) -> Option<Decimal> {
+    reported(tally).map(|(attribute, figures)| mean(attribute, &figures))
+}
+
+/// The row that R is set against, where R is worked out and there is one.
+pub fn row(tally: &Tally) -> Option<&Row> {
+    let (attribute, figures) = worked_out(tally)?;
+    row_for(attribute, tally.card(), &figures, &mean(attribute, &figures))
 }
 
 /// The five lines of a report, or 15.
 pub fn text(tally: &Tally) -> Result<String, Refusal> {
-    let held = tally.held().len();
-    let attribute = match Attribute::of(tally.lot().attribute) {
-        Some(attribute) if held >= FEWEST_REPORTED => attribute,
-        _ => return Err(Refusal::TooFew),
-    };
-    let card = tally.card();
-    let figures = Figures::of(tally.held());
+    let (attribute, figures) = reported(tally).ok_or(Refusal::TooFew)?;
     let mut text = String::with_capacity(96);
-    write_lines(&mut text, attribute, card, &figures).expect("a string takes all that is written");
+    write_lines(&mut text, attribute, tally.card(), &figures).expect("a string takes all that is written");
     Ok(text)
 }
 
 fn write_lines(text: &mut String, attribute: Attribute, card: &Card, figures: &Figures) -> fmt::Result {
+    let mean = mean(attribute, figures);
     writeln!(text, "N {}", figures.held)?;
-    writeln!(text, "MEAN {}", mean(attribute, figures))?;
+    writeln!(text, "MEAN {mean}")?;
+    // The limits are for the exact mean, the row is for the one printed.
     if !figures.mean_within(attribute.mean_limits()) {
         return text.write_str("H void\nR void\nLOT void\n");
     }
     let h = write_h(text, attribute, card, figures)?;
-    let r = write_r(text, attribute, card, figures)?;
+    let r = write_r(text, attribute, row_for(attribute, card, figures, &mean), figures)?;
     let lot = match (h, r) {
         (Verdict::Over, _) | (_, Verdict::Over) => "heterogeneous",
         (Verdict::Open, _) | (_, Verdict::Open) => "open",
@@ -151,9 +166,17 @@ fn write_lines(text: &mut String, attribute: Attribute, card: &Card, figures: &F
 /// The mean to its places, half up. X has places of its own, which count towards them.
 fn mean(attribute: Attribute, figures: &Figures) -> Decimal {
     let places = attribute.mean_places(figures.held as usize);
-    let scale = 10u128.pow(places - attribute.places());
+    let scale = attribute.mean_scale(figures.held as usize);
     let [sum, held] = [figures.sum, figures.held].map(u128::from);
     Decimal { value: (2 * scale * sum + held) / (2 * held), places }
+}
+
+/// The first row in sheet order with N within its bounds and a mean bound of at least the printed mean. All
+/// places of that mean count: a bound is brought to them, as the mean brought to X's would be rounded again.
+fn row_for<'a>(attribute: Attribute, card: &'a Card, figures: &Figures, mean: &Decimal) -> Option<&'a Row> {
+    let held = figures.held as usize;
+    let scale = attribute.mean_scale(held);
+    card.rows().iter().find(|row| row.is_for(held) && mean.value <= u128::from(row.mean_bound) * scale)
 }
 
 fn write_h(
@@ -174,14 +197,10 @@ fn write_h(
 fn write_r(
     text: &mut String,
     attribute: Attribute,
-    card: &Card,
+    row: Option<&Row>,
     figures: &Figures,
 ) -> Result<Verdict, fmt::Error> {
     let places = attribute.places();
-    let row = card.rows().iter().find(|row| {
-        let held = u64::from(row.lowest)..=u64::from(row.highest);
-        held.contains(&figures.held) && figures.sum <= u64::from(row.mean_bound) * figures.held
-    });
     let value = Decimal { value: figures.range().into(), places };
     let verdict = row.map(|row| Verdict::of(figures.range() > row.tolerated.into()));
     let limit = row.map(|row| Decimal { value: row.tolerated.into(), places });

@@ -1,13 +1,17 @@
 //! The comparison itself is tried: programs with a fault that a lazy programmer might leave in are
 //! each found by it, and the made sheets and lists reach what they are made for.
 
-use compare::comparison::{self, Comparison};
+use compare::apart;
+use compare::card::{Attribute, HIGHEST_X, Row};
+use compare::comparison::{self, Comparison, MISSED, VOID};
 use compare::generate::plan::Plan;
 use compare::generate::sheets::{self, KINDS};
 use compare::generate::weighings::EDGES;
 use compare::prng::Prng;
+use compare::report::FEWEST_REPORTED;
 use compare::sheet::{self, END, Frame};
 use compare::subject::{Independent, Subject};
+use compare::tally::Tally;
 use compare::weights::Weighing;
 use compare::{buffer, patterns, report};
 
@@ -156,18 +160,57 @@ fn weighing_at(sheet: &[u8], line: &str) -> Option<Weighing> {
     }
 }
 
-/// The sheet with its weighings changed, or taken for something else.
-fn with_weighings(sheet: &[u8], change: impl Fn(u16, Weighing) -> Option<Frame>) -> Vec<u8> {
+/// The sheet with those of its frames changed for which there is a change.
+fn with_frames(sheet: &[u8], change: impl Fn(Frame) -> Option<Frame>) -> Vec<u8> {
     let lines = sheet.split_inclusive(|&byte| byte == END);
-    let changed = lines.map(|line| match line.strip_suffix(&[END]).and_then(Frame::parse) {
-        Some(Frame::Weighed { container, weighing }) => {
+    let changed = lines.map(|line| {
+        let frame = line.strip_suffix(&[END]).and_then(Frame::parse).and_then(&change);
+        frame.map_or(line.to_vec(), |frame| {
             let mut written = Vec::new();
-            change(container, weighing).inspect(|frame| frame.write(&mut written));
-            if written.is_empty() { line.to_vec() } else { written }
-        }
-        _ => line.to_vec(),
+            frame.write(&mut written);
+            written
+        })
     });
     changed.collect::<Vec<_>>().concat()
+}
+
+/// The sheet with its weighings changed, or taken for something else.
+fn with_weighings(sheet: &[u8], change: impl Fn(u16, Weighing) -> Option<Frame>) -> Vec<u8> {
+    with_frames(sheet, |frame| match frame {
+        Frame::Weighed { container, weighing } => change(container, weighing),
+        _ => None,
+    })
+}
+
+/// What a rule for the row may look at: S, N, and how many units of the mean's last place X's unit has.
+struct Mean {
+    sum: u64,
+    held: u64,
+    scale: u64,
+}
+
+/// The mean of a tally, and its attribute.
+fn mean_of(tally: &Tally) -> (Attribute, Mean) {
+    let attribute = Attribute::of(tally.lot().attribute).expect("a tally that was read");
+    let sum = tally.held().iter().map(|held| u64::from(held.x)).sum();
+    let held = tally.held().len();
+    (attribute, Mean { sum, held: held as u64, scale: attribute.mean_scale(held) as u64 })
+}
+
+/// What is printed where the row is found by another rule. A row that this rule takes gets a bound that
+/// serves any mean, any other the bound 0, which serves none, since a mean of 0 is void.
+fn with_rows(sheet: &[u8], serves: fn(&Mean, u64) -> bool) -> String {
+    let mean = match sheet::read(sheet) {
+        Ok(read) if read.tally.held().len() >= FEWEST_REPORTED => mean_of(&read.tally).1,
+        _ => return sheet::printed(sheet),
+    };
+    sheet::printed(&with_frames(sheet, |frame| match frame {
+        Frame::Range(row) => {
+            let mean_bound = if serves(&mean, row.mean_bound.into()) { HIGHEST_X } else { 0 };
+            Some(Frame::Range(Row { mean_bound, ..row }))
+        }
+        _ => None,
+    }))
 }
 
 fn has_weighings(sheet: &[u8]) -> bool {
@@ -180,7 +223,7 @@ fn by_printed_value(name: &str, words: &[&str]) -> Option<String> {
     (first == name).then(|| format!("{name} {value} {limit} {}", if left > right { "over" } else { "kept" }))
 }
 
-const FAULTS: [(&str, Fault); 34] = [
+const FAULTS: [(&str, Fault); 40] = [
     ("lower case taken", Fault::Text(|sheet| sheet::printed(&sheet.to_ascii_uppercase()))),
     (
         "byte 0D passed over",
@@ -445,6 +488,47 @@ const FAULTS: [(&str, Fault); 34] = [
             refused => refused,
         }),
     ),
+    (
+        "the row by the exact mean",
+        Fault::Text(|sheet| with_rows(sheet, |mean, bound| mean.sum <= bound * mean.held)),
+    ),
+    (
+        "the row by the mean to the units of X",
+        Fault::Text(|sheet| {
+            with_rows(sheet, |mean, bound| (2 * mean.sum + mean.held) / (2 * mean.held) <= bound)
+        }),
+    ),
+    (
+        "the row by the mean cut off at its places",
+        Fault::Text(|sheet| {
+            with_rows(sheet, |mean, bound| mean.scale * mean.sum / mean.held <= bound * mean.scale)
+        }),
+    ),
+    (
+        "the row by the mean with half down",
+        Fault::Text(|sheet| {
+            with_rows(sheet, |mean, bound| {
+                let halves = 2 * mean.scale * mean.sum + mean.held - 1;
+                halves / (2 * mean.held) <= bound * mean.scale
+            })
+        }),
+    ),
+    (
+        "the mean bound taken as exclusive",
+        Fault::Text(|sheet| {
+            with_rows(sheet, |mean, bound| {
+                let halves = 2 * mean.scale * mean.sum + mean.held;
+                halves / (2 * mean.held) < bound * mean.scale
+            })
+        }),
+    ),
+    (
+        "void by the printed mean",
+        Fault::Text(|sheet| match sheet::read(sheet) {
+            Ok(read) if apart::in_void(&read.tally) => sheet::printed(sheet).replace("void", "none open"),
+            _ => sheet::printed(sheet),
+        }),
+    ),
     ("1000 g itself too heavy", Fault::Tenths(|bits| if bits == 0x447A_0000 { -19 } else { tenths(bits) })),
 ];
 
@@ -483,6 +567,46 @@ fn sheets_reach_the_limits_they_are_made_for() {
         [("equal", equal), ("half", half), ("at a limit", at_limit), ("below zero", below_zero)]
     {
         assert!(times >= 20, "{what}: {times}");
+    }
+}
+
+/// Percentages alone, with 5 to 9 and from 21 results, have a mean that is rounded down to a bound.
+#[test]
+fn sheets_reach_the_means_that_print_as_a_bound_or_as_a_limit() {
+    let mut prng = Prng::new(6);
+    // For purity and germination, with less than ten results and with more.
+    let (mut rows, mut below, mut above) = ([[0; 2]; 2], [[0; 2]; 2], [[0; 2]; 2]);
+    for at in 0..40_000 {
+        let sheet = sheets::sheet(&mut prng, KINDS[at % KINDS.len()]);
+        let Ok(read) = sheet::read(&sheet) else { continue };
+        let (attribute, mean) = mean_of(&read.tally);
+        let (in_row, in_void) = (apart::in_row(&read.tally), apart::in_void(&read.tally));
+        if !attribute.is_percentage() || (10..=20).contains(&mean.held) {
+            assert!(!in_row);
+        }
+        if attribute.is_percentage() {
+            let place = (usize::from(attribute == Attribute::Germination), usize::from(mean.held >= 10));
+            let too_high = mean.sum > attribute.mean_limits().1 * mean.held;
+            rows[place.0][place.1] += usize::from(in_row);
+            below[place.0][place.1] += usize::from(in_void && !too_high);
+            above[place.0][place.1] += usize::from(in_void && too_high);
+        }
+    }
+    for (what, times) in [("a row", rows), ("below a limit", below), ("above a limit", above)] {
+        assert!(times.as_flattened().iter().all(|&times| times >= 20), "{what}: {times:?}");
+    }
+}
+
+#[test]
+fn the_comparison_counts_what_shows_the_mean() {
+    let mut found = Comparison::default();
+    comparison::sheets(6, 8_000, &Independent, &Independent, &mut found);
+    comparison::lists(6, 2_000, &Independent, &Independent, &mut found);
+    for what in ["reports on sheets", "reports in lists"] {
+        for shown in [format!("{what}, of them with {MISSED}"), format!("{what}, of them {VOID}")] {
+            let (times, of) = (found.compared[&shown], found.compared[what]);
+            assert!((10..of).contains(&times), "{shown}: {times}");
+        }
     }
 }
 

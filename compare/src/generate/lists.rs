@@ -1,5 +1,6 @@
 //! Lists of calls on two tallies.
 
+use crate::apart::Apart;
 use crate::calls::Call;
 use crate::card::{Card, HIGHEST_X, Lot, MOST_ROWS};
 use crate::generate::entry::Entry;
@@ -12,11 +13,14 @@ use crate::sheet::{self, LONGEST_WRITTEN};
 use crate::tally::{MOST_HELD, Tally};
 
 /// A list of calls, what they answer, and the room that all the answers need.
+#[derive(Default)]
 pub struct List {
     pub calls: Vec<Call>,
     /// Each call's name with 0 or the refusal's number.
     pub answers: Vec<(&'static str, u8)>,
     pub room: usize,
+    /// The reports that are not refused.
+    pub apart: Apart,
 }
 
 /// What the cards and calls of a list may be.
@@ -41,9 +45,7 @@ struct Followed<'a> {
 
 /// Makes a list of up to some hundred calls.
 pub fn list(prng: &mut Prng, form: Form) -> List {
-    let held = prng.pick(&[0, 1, 5, 20, 60]);
-    // Every other list is of purity, so that what is weighed can be held.
-    let mut plan = if prng.once_in(2) { Plan::weighed(prng, held) } else { Plan::judged(prng, held) };
+    let mut plan = some_plan(prng);
     if prng.once_in(2) {
         // Few containers, so that the two tallies meet often.
         let least = plan.results.iter().map(|entry| entry.container).max().unwrap_or(1);
@@ -54,7 +56,7 @@ pub fn list(prng: &mut Prng, form: Form) -> List {
         plan.criticals = plan.criticals.get(kept).copied().into_iter().collect();
         plan.rows = plan.rows.first().map_or(Vec::new(), |&row| vec![row; plan.rows.len()]);
     }
-    let list = List { calls: Vec::new(), answers: Vec::new(), room: 0 };
+    let list = List::default();
     let mut followed = Followed { prng, form, tallies: [Tally::fresh(), Tally::fresh()], plan, list };
     followed.some_calls();
     // At the end all of both tallies is shown.
@@ -65,12 +67,24 @@ pub fn list(prng: &mut Prng, form: Form) -> List {
     followed.list
 }
 
+fn some_plan(prng: &mut Prng) -> Plan {
+    if prng.once_in(3) {
+        return Plan::close(prng);
+    }
+    let held = prng.pick(&[0, 1, 5, 20, 60]);
+    // Every other list is of purity, so that what is weighed can be held.
+    if prng.once_in(2) { Plan::weighed(prng, held) } else { Plan::judged(prng, held) }
+}
+
 impl Followed<'_> {
     fn some_calls(&mut self) {
         // One list in eight begins on a fresh tally.
         if !self.prng.once_in(8) {
             self.open(0);
             self.open(1);
+        }
+        if self.prng.once_in(2) {
+            self.enter_plan(0);
         }
         for _ in 0..self.prng.pick(&[3, 10, 30, 80, 200]) {
             let on = self.prng.below(2);
@@ -92,6 +106,9 @@ impl Followed<'_> {
         let room = call.room().unwrap_or(0);
         self.list.room += 3 + room;
         let answer = call.make(&mut self.tallies, &mut vec![0; room]);
+        if let (Call::Report { on, .. }, Ok(_)) = (&call, &answer) {
+            self.list.apart.look_at(&self.tallies[*on]);
+        }
         self.list.answers.push((call.name(), answer.map_or_else(Refusal::number, |_| 0)));
         self.list.calls.push(call);
     }
@@ -148,6 +165,14 @@ impl Followed<'_> {
             }
         }
         self.make_open(on, lot, card);
+    }
+
+    /// Enters the plan's own results, which its critical values and rows lie close to, and has them reported.
+    fn enter_plan(&mut self, on: usize) {
+        for entry in self.plan.results.clone() {
+            self.make(entry.call(on));
+        }
+        self.make(Call::Report { on, room: 100 });
     }
 
     fn join(&mut self, on: usize) {

@@ -114,6 +114,28 @@ impl Plan {
         plan
     }
 
+    /// A plan whose mean is a whole number of X's units, often a limit for void, or lies about as far from it
+    /// as the rounding of the printed mean reaches. Its rows have that number for a bound, or one close by.
+    pub fn close(prng: &mut Prng) -> Self {
+        let attribute = prng.pick(&[0, 0, 1, 1, 2]);
+        let held = prng.pick(&[5, 6, 7, 8, 9, 10, 19, 20, 21, 39, 40, 41, 59, 60]);
+        let mut plan = Self::of_attribute(prng, attribute, held);
+        let limits = [[20, 9_980], [100, 9_900], [2, 2]][usize::from(attribute)];
+        let whole = if prng.once_in(3) { prng.pick(&limits) } else { prng.within(0..=HIGHEST_X) };
+        let sum = close_sum(prng, held, whole);
+        let xs = spread(prng, held, sum);
+        for (entry, x) in plan.results.iter_mut().zip(xs) {
+            *entry = Entry::entered(entry.container, x);
+        }
+        plan.add_criticals(prng);
+        let rows = prng.below(4) + 1;
+        plan.add_rows(prng, rows);
+        for row in &mut plan.rows {
+            row.mean_bound = prng.near(&[whole, whole, whole + 1]).min(HIGHEST_X);
+        }
+        plan
+    }
+
     /// The largest good sheet that is written: every critical value, 96 rows and 60 results.
     pub fn full(prng: &mut Prng) -> Self {
         let mut plan = Self::with_results(prng, MOST_HELD);
@@ -283,6 +305,16 @@ fn card_tenths(prng: &mut Prng, least: u16) -> u16 {
 /// Another tolerated range that is not close to the range itself.
 fn other_range(range: u16) -> u16 {
     range / 2 + 37
+}
+
+/// A sum of X whose mean is the given number, or lies about as far from it as rounding reaches: half of the
+/// last place that a percentage prints, which is the unit of X and from ten results a tenth of it.
+fn close_sum(prng: &mut Prng, held: usize, whole: u16) -> usize {
+    let sum = held * usize::from(whole);
+    let reach = if held < 10 { held / 2 } else { held / 20 };
+    let away = prng.pick(&[0, 1, reach.saturating_sub(1), reach, reach + 1]);
+    let most = held * usize::from(HIGHEST_X);
+    if prng.once_in(3) { sum.saturating_sub(away) } else { (sum + away).min(most) }
 }
 
 /// `held` values of X with the given sum, spread more or less widely.

@@ -13,6 +13,7 @@ use crate::tally::MOST_HELD;
 pub enum Kind {
     Good,
     Exact,
+    Close,
     Full,
     Few,
     Weighed,
@@ -27,12 +28,14 @@ pub enum Kind {
 }
 
 /// All kinds, those more often made more often named.
-pub const KINDS: [Kind; 22] = [
+pub const KINDS: [Kind; 24] = [
     Kind::Good,
     Kind::Good,
     Kind::Good,
     Kind::Good,
     Kind::Exact,
+    Kind::Close,
+    Kind::Close,
     Kind::Full,
     Kind::Few,
     Kind::Weighed,
@@ -57,6 +60,7 @@ pub fn sheet(prng: &mut Prng, kind: Kind) -> Vec<u8> {
     match kind {
         Kind::Good => judged(prng).sheet(),
         Kind::Exact => Plan::exact(prng).sheet(),
+        Kind::Close => Plan::close(prng).sheet(),
         Kind::Full => Plan::full(prng).sheet(),
         Kind::Few => {
             let held = prng.below(6);
