@@ -1,14 +1,15 @@
 -- What the row by the printed mean changes against the exact mean. Assumes nothing.
 use mathlib.Core.Path.{_≡_, refl, sym, ap, _∙_}
 use mathlib.Core.Bool.{Bool, true, false, _&&_, true≢false}
-use Prim.Native.Nat.{ℕ, zero, suc, _+_, _-_, _*_, _≤_, _<_}
+use Prim.Native.Nat.{ℕ, zero, suc, _+_, _-_, _*_, _^_, _≤_, _<_}
 use native.Mathlib.Nat.{mul-le-mul-left, mul-le-mul-right}
 use native.Mathlib.Decide.{decLe}
 use native.Mathlib.Omega.{arith}
 use lib.Dec.{leb}
 use lib.ListN.{getD}
 use borrow.Author.Tests.{le-leb, lt-leb, leb-true}
-use Rattle.rules.specs.Attributes.{meanScale}
+use Rattle.rules.specs.Choice.{pick}
+use Rattle.rules.specs.Attributes.{placesOfX, placesOfMean, meanPlaces, meanScale}
 use Rattle.rules.specs.Figures.{meanOf, printedMean, rowServes, toleratedUpto, toleratedFor}
 use Rattle.rules.specs.Rows.{exactMean, JustBelow, RowByPrintedMean}
 use Rattle.rules.specs.declared.Attribute.{Attribute}
@@ -129,9 +130,23 @@ scale-from-ten Purity n h = rw (le-leb 10 n h) (omega arith)
 scale-from-ten Germination n h = rw (le-leb 10 n h) (omega arith)
 scale-from-ten Count n h = rw (le-leb 10 n h) (omega arith)
 
+-- ---- the scale is that of the places printed
+scale-of-places : (a : Attribute) (n : ℕ) → meanScale a n * 10 ^ placesOfX a ≡ 10 ^ meanPlaces a n
+unfolding meanScale
+scale-of-places a n = by a (leb 10 n)
+  where
+    by : (a : Attribute) (more : Bool) → let places = pick more (placesOfMean a + 1) (placesOfMean a) in 10 ^ (places - placesOfX a) * 10 ^ placesOfX a ≡ 10 ^ places
+    by Purity true = refl
+    by Purity false = refl
+    by Germination true = refl
+    by Germination false = refl
+    by Count true = refl
+    by Count false = refl
+
 pub row-by-printed-mean : RowByPrintedMean
 row-by-printed-mean =
     record {
+      places = scale-of-places;
       still = row-still;
       gained = row-gained;
       every = row-every;

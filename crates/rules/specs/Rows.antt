@@ -2,9 +2,9 @@
 -- result and more.
 use mathlib.Core.Path.{_≡_}
 use mathlib.Core.Bool.{true, false}
-use Prim.Native.Nat.{ℕ, _-_, _*_, _≤_, _<_}
+use Prim.Native.Nat.{ℕ, _-_, _*_, _^_, _≤_, _<_}
 use lib.ListN.{getD}
-use Rattle.rules.specs.Attributes.{meanScale}
+use Rattle.rules.specs.Attributes.{placesOfX, meanPlaces, meanScale}
 use Rattle.rules.specs.Figures.{printedMean, rowServes, toleratedUpto, toleratedFor}
 use Rattle.rules.specs.declared.Attribute.{Attribute}
 use Rattle.rules.specs.declared.Attribute.the-variants.{Count}
@@ -22,6 +22,8 @@ pub record JustBelow (a : Attribute) (f : Figures) (bound : ℕ) : Type 0 where
   pub near : 2 * meanScale a (f .count) * (f .sum - bound * f .count) < f .count
 
 pub record RowByPrintedMean : Type 0 where
+  -- the scale of the printed mean is that of the MEAN line, which has meanPlaces decimal places where X has placesOfX
+  pub places : (a : Attribute) (n : ℕ) → meanScale a n * 10 ^ placesOfX a ≡ 10 ^ meanPlaces a n
   -- a row that serves by the exact mean still serves
   pub still : (a : Attribute) (c : Card) (f : Figures) (k : ℕ) → 1 ≤ f .count
       → rowServes c k (f .count) (exactMean f) ≡ true → rowServes c k (f .count) (printedMean a f) ≡ true
