@@ -6,9 +6,8 @@ use native.Mathlib.Nat.{mul-le-mul, mul-le-mul-right, div-le-self, div-lt-iff-lt
 use mathlib.Core.Path.{_≡_, refl, ap}
 use mathlib.Core.Bool.{Bool, true, false}
 use Rattle.rules.specs.Limits.{highestX, mostFactor, mostSeeds}
-use Rattle.rules.specs.Rounding.{nearestOf}
-use Rattle.rules.specs.Attributes.{isVoid}
-use Rattle.rules.specs.Figures.{deviation, ratio, reportedH, exceeds, verdictBy, verdictOn}
+use Rattle.rules.specs.Attributes.{isVoid, meanScale}
+use Rattle.rules.specs.Figures.{deviation, meanOf, ratio, reportedH, exceeds, verdictBy, verdictOn}
 use Rattle.rules.specs.Spread.{HeadWithin}
 use Rattle.rules.specs.declared.Attribute.{Attribute}
 use Rattle.rules.specs.declared.Attribute.the-variants.{Purity, Germination, Count}
@@ -94,15 +93,18 @@ pub mean-workable : (scale s n : ℕ) → scale ≤ 100 → 1 ≤ n → s < 2 ^ 
 mean-workable scale s n h k a b =
     workable-of scale s n (record { scale = h; positive = k; under = omega arith; whole = omega (arith, div-le-self s n) })
 
--- and the mean, which is at most the highest result, has no more than two places beside those of X
-pub mean-most : (scale s n : ℕ) → scale ≤ 100 → 1 ≤ n → s ≤ highestX * n → nearestOf (scale * s) n ≤ 100 * highestX
-mean-most scale s n h k l = by (decLe (nearestOf (scale * s) n) (100 * highestX))
+-- the mean is at most the highest result, and has no more than two places beside those of X
+pub mean-most : (a : Attribute) (f : Figures) → Served f → meanScale a (f .count) ≤ 100 → meanOf a f ≤ 100 * highestX
+unfolding meanOf
+mean-most a f m h = by (decLe (meanOf a f) (100 * highestX))
   where
-    by : Dec (nearestOf (scale * s) n ≤ 100 * highestX) → nearestOf (scale * s) n ≤ 100 * highestX
+    by : Dec (meanOf a f ≤ 100 * highestX) → meanOf a f ≤ 100 * highestX
     by (yes p) = p
     by (no p) =
-        let m : 100 * highestX + 1 ≤ nearestOf (scale * s) n = omega arith in
-        absurd (omega (arith, low (scale * s) n k, mul-le-mul-right n m, mul-le-mul h l))
+        let k : 100 * highestX + 1 ≤ meanOf a f = omega arith in
+        absurd
+        (omega
+        (arith, low (meanScale a (f .count) * f .sum) (f .count) (omega (arith, m .enough)), mul-le-mul-right (f .count) k, mul-le-mul h (m .spread .sum-high)))
 
 verdict-same : (p q : ℕ → Bool) (l : Limit) → ((v : ℕ) → p v ≡ q v) → verdictOn p l ≡ verdictOn q l
 verdict-same p q Absent h = refl

@@ -5,7 +5,7 @@ ghost use Rattle.rules.specs.Figures.{figuresOf, meanOf};
 ghost use Rattle.rules.specs.Report.{noValue, findingsOf};
 ghost use Rattle.rounding.specs.Dividing.{Workable};
 ghost use Rattle.findings.specs.Values.{hAgainst, rAgainst};
-ghost use Rattle.findings.specs.Reportable.{inOrder, foundOf, Served, IsReportable};
+ghost use Rattle.findings.specs.Reportable.{inOrder, foundOf, IsReportable};
 use rules::Attribute;
 use rules::Card;
 use rules::Figures;
@@ -26,12 +26,12 @@ pub enum Found {
 }
 
 // The mean in units of its last printed place, half up.
-fn mean(a: Attribute, f: Figures) -> u32
-    requires { ⌜ Served f ⌝ }
+fn mean(a: Attribute, f: Figures) -> u64
+    requires { ⌜ 1 ≤ f .count ⌝ }
     ensures { λ r. ⌜ r ≡ meanOf a f ⌝ }
 {
     let d = rounding::divide(a.mean_scale(f.count) as u64, f.sum as u64, f.count as u64);
-    d.nearest as u32
+    d.nearest
 }
 
 // a less b, and 0 where b is larger.
@@ -89,12 +89,14 @@ fn of_figures(a: Attribute, c: Card, f: Figures) -> Findings
     let n = f.count as usize;
     let places = a.mean_places(f.count) as u8;
     let mean = mean(a, f);
+    // The row goes by the mean that is printed, printed / scale; void goes by the exact one, f.sum / f.count.
     let scale = a.mean_scale(f.count);
+    let printed = mean as u32;
     if a.is_void(f.count, f.sum) {
         return Findings {
             count: f.count,
             places: places,
-            mean: mean as u64,
+            mean: mean,
             void: true,
             h: no_value(),
             r: no_value(),
@@ -104,13 +106,13 @@ fn of_figures(a: Attribute, c: Card, f: Figures) -> Findings
     let head = c.head;
     let q = values::ratio(a, head, f);
     let h = h_value(q, head.offset, verdicts::critical_at(c.critical[n]));
-    let r = r_value(a, f, verdicts::tolerated_for(c, f.count, mean, scale));
+    let r = r_value(a, f, verdicts::tolerated_for(c, f.count, printed, scale));
     let by_h = h.verdict;
     let by_r = r.verdict;
     Findings {
         count: f.count,
         places: places,
-        mean: mean as u64,
+        mean: mean,
         void: false,
         h: h,
         r: r,

@@ -1,10 +1,20 @@
 -- `findings::of_figures` meets its contract. Assumes nothing.
 use mathlib.Core.Path.{sym, _∙_}
+use Prim.Native.Nat.{_≤_}
+use native.Mathlib.Omega.{arith}
 use Rattle.findings.proofs.FoundLaws.{void-found, values-found}
-use Rattle.findings.proofs.ValueLaws.{h-workable}
+use Rattle.findings.proofs.ValueLaws.{mean-most, h-workable}
 use borrow.Author.Needs.{needs}
 use Rattle.findings.proofs.of_figures.Statement.{statement}
 use Rattle.findings.proofs.of_figures.Tie as tie
+
+-- the printed mean has room where S has
+cast-printed : tie.Need-cast-printed
+cast-printed c =
+    let mean = c .before in
+    let start = mean .before .before .before in
+    let h : c .mean-scale .result ≤ 100 = c .mean-scale .ensures .1 in
+    omega (arith, mean .mean .ensures, mean-most (start .args .a) (start .args .f) (start .pre .served) (rw (← c .mean-scale .ensures .0) h))
 
 returns : tie.Need-returns
 returns c =
@@ -35,6 +45,6 @@ returns-2 c =
 pub of-figures-spec : {M : Type 1} → statement M
 of-figures-spec =
     tie.close
-    (tie.spec (λ c. search needs) (λ c κs. search needs) (λ c. search needs) (λ c κs. search needs) (λ c κs. search needs) (λ c κs. search needs)
-    (λ c. search needs) (λ c κs. search needs) (λ c κs. search needs) returns (λ c κs. search needs) (λ c. search needs) (λ c. search needs)
-    (λ c κs. search needs) h-value-requires (λ c κs. search needs) (λ c κs. search needs) (λ c. search needs) (λ c κs. search needs) returns-2)
+    (tie.spec (λ c. search needs) (λ c κs. search needs) (λ c. search needs) (λ c κs. search needs) (λ c κs. search needs) cast-printed (λ c κs. search needs)
+    (λ c κs. search needs) (λ c κs. search needs) returns (λ c κs. search needs) (λ c. search needs) (λ c. search needs)
+    (λ c κs. search needs) h-value-requires (λ c κs. search needs) (λ c κs. search needs) (λ c κs. search needs) returns-2)
