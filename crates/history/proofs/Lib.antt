@@ -8,3 +8,4 @@ pub mod Reporting
 pub mod Theorem
 pub mod Cases
 pub mod EverySheet
+pub mod Ranges

@@ -3,28 +3,29 @@ use Prim.Native.Nat.{ℕ, zero, suc, _+_, _*_, _/_, _^_, _≤_, _<_}
 use native.Mathlib.Omega.{arith}
 use mathlib.Core.Path.{_≡_, refl, sym, ap, _∙_}
 use mathlib.Core.Bool.{Bool, true, false, true≢false}
-use mathlib.Core.List.{List, _++_, append-assoc}
+use mathlib.Core.List.{List, [], _∷_, _++_, append-assoc}
 use lib.Dec.{eqb, ltb}
 use lib.ListN.{getD}
 use borrow.Author.Tests.{lt-ltb, le-ltb, ltb-true, eqb-false}
 use Rattle.rules.specs.Choice.{pick}
 use Rattle.rules.specs.Limits.{leastReported}
 use Rattle.rules.specs.Text.{text, byte, lastDigit, decimals, decimal, lastDigits, pointed}
-use Rattle.rules.specs.Attributes.{attributeOf, isVoid, meanPlaces}
+use Rattle.rules.specs.Attributes.{isVoid, meanPlaces}
 use Rattle.rules.specs.Figures.{figures, meanOf, exceeds, verdictBy, together}
 use Rattle.rules.specs.Report.{countLine, meanLine, verdictWord, limitText, valueLine, lotWord, lotVerdictLine, valueH, valueR, noValue, foundWith, findingsOf, findingsText, reportOf}
+use Rattle.rules.specs.Lines.{ended, linesOf}
 use Rattle.rules.specs.Ledger.{Ledger, held}
-use Rattle.rules.specs.declared.Attribute.{Attribute}
 use Rattle.rules.specs.declared.Value.{Value}
 use Rattle.rules.specs.declared.Verdict.{Verdict}
 use Rattle.rules.specs.declared.Verdict.the-variants.{Undecided}
 use Rattle.rules.proofs.RoundingLaws.{reported-nearest, reported-zero, above-over, below-kept}
 use Rattle.rules.proofs.SpreadLaws.{under-positive}
 use Rattle.history.specs.Verdict.{quotient, upper, lower, NearestH, Against, WorkedOut, ReportLines}
+use Rattle.history.specs.Ranges.{attribute}
 use Rattle.history.proofs.EndlessLaws.{endless, Endless, written, joined, decimal-endless, pointed-endless, limit-endless, verdict-endless, lot-endless, five-lines}
 
 -- ---- a line of H or of R that is worked out, without its end byte
-valued : List ℕ → Value → List ℕ
+unfoldable pub valued : List ℕ → Value → List ℕ
 valued name v =
     name ++ pointed (v .places) (v .value) ++ text " " ++ limitText (v .places) (v .limit) ++ text " " ++ verdictWord (v .verdict)
 
@@ -67,16 +68,13 @@ word-by true e = refl
 word-by false e = let z : _≡_ {A = ℕ} 107 111 = ap (λ (l : List ℕ). getD l 0 0) e in absurd (eqb-false 107 111 refl z)
 
 -- what is found of a ledger
-abbrev attribute : Ledger → Attribute
-attribute g = attributeOf (g .lot .attribute)
-
-abbrev h : Ledger → Value
+abbrev pub h : Ledger → Value
 h g = valueH (attribute g) (g .card) (figures g)
 
-abbrev r : Ledger → Value
+abbrev pub r : Ledger → Value
 r g = valueR (attribute g) (g .card) (figures g)
 
-abbrev lot : Ledger → Verdict
+abbrev pub lot : Ledger → Verdict
 lot g = together (h g .verdict) (r g .verdict)
 
 module _ (g : Ledger) (pos : 0 < quotient g .under) where
@@ -113,30 +111,48 @@ module _ (g : Ledger) (pos : 0 < quotient g .under) where
       }
 
 -- ---- the five lines
-count-line : Ledger → List ℕ
+pub count-line : Ledger → List ℕ
 count-line g = text "N " ++ decimal (held g)
 
 count-endless : (g : Ledger) → Endless (count-line g)
 unfolding count-line endless
 count-endless g = joined (written (text "N ") refl) (decimal-endless (held g))
 
-mean-line : Ledger → List ℕ
+unfoldable pub mean-line : Ledger → List ℕ
 mean-line g = text "MEAN " ++ pointed (meanPlaces (attribute g) (held g)) (meanOf (attribute g) (figures g))
 
 mean-endless : (g : Ledger) → Endless (mean-line g)
 unfolding mean-line endless
 mean-endless g = joined (written (text "MEAN ") refl) (pointed-endless _ _)
 
+-- the text of a report, by a test whether the mean is void
+abbrev pub textBy : Ledger → Bool → List ℕ
+textBy g b =
+    findingsText
+    (pick b (foundWith (attribute g) (figures g) true noValue noValue Undecided) (foundWith (attribute g) (figures g) false (h g) (r g) (lot g)))
+
+pub void-lines : (g : Ledger)
+    → linesOf (textBy g true) ≡ ended (count-line g) ∷ ended (mean-line g) ∷ ended (text "H void") ∷ ended (text "R void") ∷ ended (text "LOT void") ∷ []
+unfolding findingsText countLine meanLine valueLine lotVerdictLine count-line mean-line endless
+void-lines g =
+    five-lines (count-endless g) (mean-endless g) (written (text "H void") refl) (written (text "R void") refl) (written (text "LOT void") refl)
+
+pub lot-line : Ledger → List ℕ
+lot-line g = text "LOT " ++ lotWord (lot g)
+
+pub worked-lines : (g : Ledger)
+    → linesOf (textBy g false) ≡ ended (count-line g) ∷ ended (mean-line g) ∷ ended (valued (text "H ") (h g)) ∷ ended (valued (text "R ") (r g)) ∷ ended (lot-line g) ∷ []
+unfolding findingsText countLine meanLine valueLine lotVerdictLine count-line mean-line valued lot-line endless
+worked-lines g =
+    five-lines (count-endless g) (mean-endless g)
+    (valued-endless (text "H ") (h g) (written (text "H ") refl))
+    (valued-endless (text "R ") (r g) (written (text "R ") refl))
+    (joined (written (text "LOT ") refl) (lot-endless (lot g)))
+
 -- of at least five results, judged by a card with an F
 module _ (g : Ledger) (many : leastReported ≤ held g) (factor : 1 ≤ g .card .head .factor) where
-  -- the text, by a test whether the mean is void
-  abbrev textBy : Bool → List ℕ
-  textBy b =
-      findingsText
-      (pick b (foundWith (attribute g) (figures g) true noValue noValue Undecided) (foundWith (attribute g) (figures g) false (h g) (r g) (lot g)))
-
-  lines-by : (b : Bool) → isVoid (attribute g) (held g) (figures g .sum) ≡ b → ReportLines g (textBy b)
-  unfolding findingsText countLine meanLine valueLine lotVerdictLine count-line mean-line valued endless
+  lines-by : (b : Bool) → isVoid (attribute g) (held g) (figures g .sum) ≡ b → ReportLines g (textBy g b)
+  unfolding count-line
   lines-by true e =
       record {
         count = count-line g;
@@ -144,7 +160,7 @@ module _ (g : Ledger) (many : leastReported ≤ held g) (factor : 1 ≤ g .card 
         h = text "H void";
         r = text "R void";
         lot = text "LOT void";
-        five = five-lines (count-endless g) (mean-endless g) (written (text "H void") refl) (written (text "R void") refl) (written (text "LOT void") refl);
+        five = void-lines g;
         number = refl;
         void = λ q. e;
         beyond = λ q. (refl, refl, refl);
@@ -156,12 +172,8 @@ module _ (g : Ledger) (many : leastReported ≤ held g) (factor : 1 ≤ g .card 
         mean = mean-line g;
         h = valued (text "H ") (h g);
         r = valued (text "R ") (r g);
-        lot = text "LOT " ++ lotWord (lot g);
-        five =
-            five-lines (count-endless g) (mean-endless g)
-            (valued-endless (text "H ") (h g) (written (text "H ") refl))
-            (valued-endless (text "R ") (r g) (written (text "R ") refl))
-            (joined (written (text "LOT ") refl) (lot-endless (lot g)));
+        lot = lot-line g;
+        five = worked-lines g;
         number = refl;
         void = λ q. absurd (never-void (h g) q);
         beyond = λ q. absurd (true≢false (sym q ∙ e));

@@ -5,3 +5,4 @@ pub mod Alike
 pub mod Verdict
 pub mod Whole
 pub mod EverySheet
+pub mod Ranges

@@ -1,5 +1,5 @@
--- What it changes that the row for R goes by the printed mean and not by the exact one; for every card, and for the figures of one
--- result and more.
+-- The row for R in words; and what it changes that it goes by the printed mean and not by the exact one, for every card and for the
+-- figures of one result and more.
 use mathlib.Core.Path.{_≡_}
 use mathlib.Core.Bool.{true, false}
 use Prim.Native.Nat.{ℕ, _-_, _*_, _^_, _≤_, _<_}
@@ -12,6 +12,19 @@ use Rattle.rules.specs.declared.Card.{Card}
 use Rattle.rules.specs.declared.Figures.{Figures}
 use Rattle.rules.specs.declared.Fraction.{Fraction}
 
+-- row k of a card serves n results with a mean: n is within its two bounds, and its mean bound is at least the mean
+pub record Serves (c : Card) (n : ℕ) (mean : Fraction) (k : ℕ) : Type 0 where
+  pub lowest : getD (c .lowest) k 0 ≤ n
+  pub highest : n ≤ getD (c .highest) k 0
+  pub bound : mean .over ≤ getD (c .bound) k 0 * mean .under
+
+-- the first row in sheet order that serves
+pub record FirstRow (c : Card) (n : ℕ) (mean : Fraction) (k : ℕ) : Type 0 where
+  pub row : k < c .rows
+  pub serves : Serves c n mean k
+  pub before : (j : ℕ) → j < k → Serves c n mean j → ⊥
+
+-- ---- the printed mean against the exact one
 -- the exact mean, S / N
 abbrev pub exactMean : Figures → Fraction
 exactMean f = record { over = f .sum; under = f .count }

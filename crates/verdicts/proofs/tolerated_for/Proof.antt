@@ -4,7 +4,7 @@ use mathlib.Core.Path.{_≡_, _∙_}
 use Rattle.rules.specs.Limits.{mostRows}
 use Rattle.rules.specs.Figures.{toleratedUpto}
 use Rattle.rules.specs.declared.Limit.the-variants.{Absent}
-use Rattle.verdicts.proofs.LimitLaws.{none-yet, row-passed, row-found}
+use Rattle.rules.proofs.RowLaws.{none-yet, row-passed, row-found}
 use native.Mathlib.Omega.{arith}
 use Rattle.verdicts.proofs.tolerated_for.Statement.{statement}
 use Rattle.verdicts.proofs.tolerated_for.Tie as tie
