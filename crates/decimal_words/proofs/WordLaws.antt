@@ -10,7 +10,8 @@ use lib.Seq.{drop-cons, take-suc, take-all}
 use borrow.Author.Tests.{le-leb, lt-leb}
 use Rattle.rules.specs.Choice.{pick}
 use Rattle.decimal_words.specs.declared.Word.the-variants.{Number, NotANumber}
-use Rattle.decimal_words.specs.Words.{isDecimal, allDecimal, behind, decimalValue, capped, isNumber, wordValue, wordOf}
+use Rattle.rules.specs.Decimals.{isDecimal, allDecimal, valueBehind, decimalValue, isNumber}
+use Rattle.decimal_words.specs.Words.{capped, wordValue, wordOf}
 
 -- ---- all bytes are digits
 pub decimal-end : (w : List ℕ) (i : ℕ) → length w ≤ i → allDecimal (drop i w) ≡ true
@@ -26,13 +27,13 @@ unfolding allDecimal
 decimal-yes w i h e = rw (add-one, drop-cons w i 0) (simp e)
 
 -- ---- the value
-behind-snoc : (l : List ℕ) (n c : ℕ) → behind n (l ++ (c ∷ [])) ≡ 10 * behind n l + (c - 48)
-unfolding behind
+pub behind-snoc : (l : List ℕ) (n c : ℕ) → valueBehind n (l ++ (c ∷ [])) ≡ 10 * valueBehind n l + (c - 48)
+unfolding valueBehind
 behind-snoc [] n c = refl
 behind-snoc (d ∷ l) n c = behind-snoc l (10 * n + (d - 48)) c
 
 pub value-none : decimalValue [] ≡ 0
-unfolding decimalValue behind
+unfolding decimalValue valueBehind
 value-none = refl
 
 -- the digit at i behind the first i digits

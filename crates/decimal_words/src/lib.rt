@@ -1,7 +1,8 @@
 // A word of bytes read as a decimal number. What is right is said in specs/Words.antt.
 ghost use mathlib.Core.Path.{_≡_};
 ghost use Prim.Native.Nat.{_+_, _-_, _*_, _≤_};
-ghost use Rattle.decimal_words.specs.Words.{isDecimal, capped, wordOf};
+ghost use Rattle.rules.specs.Decimals.{isDecimal};
+ghost use Rattle.decimal_words.specs.Words.{capped, wordOf};
 
 pub enum Word {
     Number(u32),

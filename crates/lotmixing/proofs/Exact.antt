@@ -12,7 +12,8 @@ use Rattle.rules.specs.Limits.{fewestMixed, mostMixed}
 use Rattle.rules.specs.Mixing.{mixingOf}
 use Rattle.rules.specs.Numbers.{refuses}
 use Rattle.rules.proofs.Tests.{and-false}
-use Rattle.decimal_words.specs.Words.{decimalValue, capped, wordValue}
+use Rattle.rules.specs.Decimals.{decimalValue}
+use Rattle.decimal_words.specs.Words.{capped, wordValue}
 use Rattle.decimal_words.proofs.Largest.{mixing-capped}
 
 -- results, one more than may be mixed

@@ -13,7 +13,8 @@ use denote.Struct.Declared.{row}
 use Rattle.rules.specs.Mixing.{mixingOf}
 use Rattle.rules.specs.declared.Answered.{Answered}
 use Rattle.rules.proofs.Tests.{and-true, and-false}
-use Rattle.decimal_words.specs.Words.{isNumber, wordValue, wordOf}
+use Rattle.rules.specs.Decimals.{isNumber}
+use Rattle.decimal_words.specs.Words.{wordValue, wordOf}
 use Rattle.decimal_words.specs.declared.Word.the-variants.{Number, NotANumber}
 use Rattle.decimal_words.proofs.WordLaws.{is-number, is-no-number}
 use Rattle.program_words.specs.declared.Said.{Said}

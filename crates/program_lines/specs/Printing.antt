@@ -9,7 +9,8 @@ use Rattle.rules.specs.Text.{text, decimal}
 use Rattle.rules.specs.Sampling.{samplingOf}
 use Rattle.rules.specs.Tolerance.{labelOf, pairOf}
 use Rattle.rules.specs.Mixing.{mixingOf}
-use Rattle.decimal_words.specs.Words.{isNumber, decimalValue, wordOf}
+use Rattle.rules.specs.Decimals.{isNumber, decimalValue}
+use Rattle.decimal_words.specs.Words.{wordOf}
 use Rattle.program_words.specs.declared.Said.{Said}
 use Rattle.program_words.specs.declared.Said.the-variants.{Usage}
 use Rattle.program_words.specs.Saying.{saidOf, twoNumbers, saidToTwo}

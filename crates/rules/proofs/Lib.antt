@@ -18,3 +18,5 @@ pub mod WeightLaws
 pub mod Weighed
 pub mod PrintedMeans
 pub mod Bounds
+pub mod ListLaws
+pub mod ListedLines

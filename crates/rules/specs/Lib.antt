@@ -26,9 +26,15 @@ pub mod Figures
 pub mod Rows
 pub mod Spread
 pub mod Report
--- a sheet read, written, and what lotreport prints for it
+-- a sheet read and written
 pub mod Reading
 pub mod Writing
+-- a comma list: decimal numbers, a list read into a ledger, and written
+pub mod Decimals
+pub mod ListReading
+pub mod ListWriting
+-- calls on a sheet, and what lotreport, lotlist and lotenter print
+pub mod OnSheets
 pub mod Printing
 -- beside the tally: primary samples, tables 14G and 14H, mixing
 pub mod Sampling

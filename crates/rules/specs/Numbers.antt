@@ -2,7 +2,7 @@
 use Prim.Native.Nat.{ℕ}
 use mathlib.Core.List.{List}
 use Rattle.rules.specs.declared.Refusal.{Refusal}
-use Rattle.rules.specs.declared.Refusal.the-variants.{Accepted, BadLine, OutOfTurn, BadLot, BadCard, CardFull, NoSuchContainer, ResultTooHigh, AlreadyHeld, Full, NotHeld, OtherLot, SharedContainer, TooManyTogether, CountWrong, TooFew, BufferShort, OutsideTable, NotSteady, BadWeight}
+use Rattle.rules.specs.declared.Refusal.the-variants.{Accepted, BadLine, OutOfTurn, BadLot, BadCard, CardFull, NoSuchContainer, ResultTooHigh, AlreadyHeld, Full, NotHeld, OtherLot, SharedContainer, TooManyTogether, CountWrong, TooFew, BufferShort, OutsideTable, NotSteady, BadWeight, BadListLine}
 use Rattle.rules.specs.declared.Answered.{Answered}
 use Rattle.rules.specs.declared.TextSize.{TextSize}
 use Rattle.rules.specs.declared.Reported.{Reported}
@@ -43,6 +43,7 @@ numberOf BufferShort = 16
 numberOf OutsideTable = 17
 numberOf NotSteady = 18
 numberOf BadWeight = 19
+numberOf BadListLine = 20
 
 -- ---- calls that answer a number: the refusal's number, or 0 and the value
 abbrev pub tells : ℕ → ℕ → Answered

@@ -109,6 +109,7 @@ pub enum Refusal {
     OutsideTable,
     NotSteady,
     BadWeight,
+    BadListLine,
 }
 
 // The stages of a sheet: which frame was read last.
@@ -280,8 +281,15 @@ pub enum Written {
     BufferShort,
 }
 
-// The answer of what prints for a sheet.
+// The answer of what prints for a sheet, and of the list writer.
 pub enum Printed {
     Length(usize),
     BufferShort,
+}
+
+// The answer of a call on a sheet: the length of the sheet after it; or a refusal, with the file (1 the sheet, 2 the list) and the line
+// of a fault in one of them, else 0 and 0.
+pub enum OnSheet {
+    Length(usize),
+    Refused(Refusal, u32, usize),
 }

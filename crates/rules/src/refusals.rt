@@ -28,6 +28,7 @@ impl Refusal {
             Refusal::OutsideTable => 17,
             Refusal::NotSteady => 18,
             Refusal::BadWeight => 19,
+            Refusal::BadListLine => 20,
         }
     }
 }

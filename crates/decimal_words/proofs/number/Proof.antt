@@ -6,7 +6,8 @@ use lib.ListN.{length, take, drop}
 use borrow.Author.Needs.{needs}
 use borrow.Author.Tests.{not-true, not-false, leb-true}
 use Rattle.rules.proofs.Tests.{and-left}
-use Rattle.decimal_words.specs.Words.{isDecimal, allDecimal, decimalValue, capped}
+use Rattle.rules.specs.Decimals.{isDecimal, allDecimal, decimalValue}
+use Rattle.decimal_words.specs.Words.{capped}
 use Rattle.decimal_words.proofs.WordLaws.{decimal-end, decimal-no, decimal-yes, value-none, capped-more, value-whole, word-empty, word-other, word-number}
 use Rattle.decimal_words.proofs.number.Statement.{statement}
 use Rattle.decimal_words.proofs.number.Tie as tie

@@ -8,7 +8,7 @@ use Rattle.rules.proofs.Refusal.number.Tie as tie
 pub number-spec : {M : Type 1} → statement M
 number-spec =
     tie.close
-    (tie.spec (λ c. search needs) (λ c. search needs) (λ c. search needs) (λ c. search needs) (λ c. search needs) (λ c. search needs)
+    (tie.spec (λ c. search needs) (λ c. search needs) (λ c. search needs) (λ c. search needs) (λ c. search needs) (λ c. search needs) (λ c. search needs)
     (λ c. search needs) (λ c. search needs) (λ c. search needs) (λ c. search needs) (λ c. search needs) (λ c. search needs) (λ c. search needs)
     (λ c. search needs) (λ c. search needs) (λ c. search needs) (λ c. search needs) (λ c. search needs) (λ c. search needs) (λ c. search needs)
     (λ c. sym (ap numberOf (c .enum-told .given .1))) (λ c. sym (ap numberOf (c .enum-told2 .given .1)))
@@ -20,4 +20,5 @@ number-spec =
     (λ c. sym (ap numberOf (c .enum-told13 .given .1))) (λ c. sym (ap numberOf (c .enum-told14 .given .1)))
     (λ c. sym (ap numberOf (c .enum-told15 .given .1))) (λ c. sym (ap numberOf (c .enum-told16 .given .1)))
     (λ c. sym (ap numberOf (c .enum-told17 .given .1))) (λ c. sym (ap numberOf (c .enum-told18 .given .1)))
-    (λ c. sym (ap numberOf (c .enum-told19 .given .1))) (λ c. sym (ap numberOf (c .enum-told20 .given .1))))
+    (λ c. sym (ap numberOf (c .enum-told19 .given .1))) (λ c. sym (ap numberOf (c .enum-told20 .given .1)))
+    (λ c. sym (ap numberOf (c .enum-told21 .given .1))))
