@@ -1,0 +1,5 @@
+pub mod Nexts
+pub mod Pieces
+pub mod Lengths
+pub mod Ascending
+pub mod ListLength
