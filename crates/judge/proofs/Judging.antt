@@ -2,14 +2,13 @@
 use mathlib.Core.Path.{_≡_, refl, sym, ap, _∙_}
 use mathlib.Core.Bool.{Bool, true, false}
 use mathlib.Core.List.{List}
-use Prim.Native.Nat.{ℕ, _≤_, _<_}
-use native.Mathlib.Omega.{arith}
+use Prim.Native.Nat.{ℕ}
 use lib.Dec.{ltb}
 use lib.ListN.{length}
 use borrow.Author.Tests.{eqb-false}
 use Rattle.rules.specs.Choice.{pick}
 use Rattle.rules.specs.Limits.{leastReported}
-use Rattle.rules.specs.Numbers.{numberOf, TextAnswer, wrote, refusesText, reportedAnswer, printedAnswer}
+use Rattle.rules.specs.Numbers.{numberOf, TextAnswer, wrote, refusesText, reportedAnswer}
 use Rattle.rules.specs.Text.{laid, laidIn}
 use Rattle.rules.specs.Ledger.{held}
 use Rattle.rules.specs.Report.{reportOf}
@@ -17,23 +16,11 @@ use Rattle.rules.specs.Reading.{readOf}
 use Rattle.rules.specs.Printing.{refusedLine, printedFor, printOn}
 use Rattle.rules.specs.declared.Refusal.{Refusal}
 use Rattle.rules.specs.declared.Reported.{Reported}
-use Rattle.rules.specs.declared.Printed.the-variants as printed
-use Rattle.rules.proofs.TextLaws.{short-is, fits-is}
-use Rattle.decimal.specs.Laying.{LaysLine}
 use Rattle.tally.specs.View.{view}
 use Rattle.report.specs.Reports.{Reports}
 use Rattle.sheet.specs.declared.Answer.the-variants.{Accepted, Refused}
 use Rattle.sheet.specs.declared.Reading.{Reading}
 use Rattle.sheet.specs.Promise.{ReadAs}
-
--- a line that is written where it fits
-pub line-short : {n : ℕ} (t d : List ℕ) → n ≡ length t → length d < n → printedAnswer printed.BufferShort d ≡ laidIn t d
-line-short t d e h = sym (short-is t d (omega arith))
-
-pub line-laid : {t d e : List ℕ} {n r : ℕ} → n ≡ length t → n ≤ length d → LaysLine t d e r → printedAnswer (printed.Length r) e ≡ laidIn t d
-line-laid {t} {d} q h l =
-    let f : length t ≤ length d = omega arith in
-    rw (l .fits f .count, l .fits f .text, fits-is t d f) refl
 
 -- ---- the report's answer says whether there were too few results
 laid-number : (b : Bool) (n : ℕ) (d e : List ℕ) → pick b (refusesText 16 d) (wrote n e) .number ≡ 15 → ⊥

@@ -7,8 +7,6 @@ use rules::Refusal;
 use rules::Reported;
 use sheet::Answer;
 
-mod refusing;
-
 // What lotreport prints for a sheet: the report of its tally, or the line of its first fault. A sheet with too few results is
 // refused at its last line, that of the 06 frame.
 pub fn judge(sheet: &[u8], buf: &mut [u8]) -> Printed
@@ -18,12 +16,12 @@ pub fn judge(sheet: &[u8], buf: &mut [u8]) -> Printed
     let answer = reading.answer;
     let t = reading.tally;
     match answer {
-        Answer::Refused(e, line) => refusing::print(buf, e, line),
+        Answer::Refused(e, line) => refusal_lines::print_refused(buf, e, line),
         Answer::Accepted(lines) => {
             let reported = report::report(t, buf);
             match reported {
                 Reported::Length(n) => Printed::Length(n),
-                Reported::TooFew => refusing::print(buf, Refusal::TooFew, lines),
+                Reported::TooFew => refusal_lines::print_refused(buf, Refusal::TooFew, lines),
                 Reported::BufferShort => Printed::BufferShort,
             }
         }

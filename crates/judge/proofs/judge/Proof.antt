@@ -9,7 +9,7 @@ use Rattle.judge.proofs.judge.Tie as tie
 returns : tie.Need-returns
 returns c =
     let answer = c .before .before .before .before .before in
-    judged-refused _ _ (answer .before .before .before .read .ensures) (answer .answer .given .1) (c .before .before .print .ensures)
+    judged-refused _ _ (answer .before .before .before .read .ensures) (answer .answer .given .1) (c .before .before .print-refused .ensures)
 
 returns-2 : tie.Need-returns-2
 returns-2 c =
@@ -23,7 +23,7 @@ returns-3 c =
     let report = c .before .before .before .before .before .before .before .before in
     let answer = report .before .before .before in
     let few = rw (c .before .before .before .before .enum-told .given .1) at (report .report .ensures) in
-    judged-few _ _ (answer .before .before .before .read .ensures) (answer .answer2 .given .1) few refl (c .before .before .print2 .ensures)
+    judged-few _ _ (answer .before .before .before .read .ensures) (answer .answer2 .given .1) few refl (c .before .before .print-refused2 .ensures)
 
 returns-4 : tie.Need-returns-4
 returns-4 c =

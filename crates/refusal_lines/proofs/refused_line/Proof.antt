@@ -1,9 +1,9 @@
--- `judge::refusing::refused_line` meets its contract.
+-- `refusal_lines::refused_line` meets its contract.
 use borrow.Author.Needs.{needs}
 use Rattle.rules.specs.Printing.{refusedLine}
 use Rattle.decimal.proofs.LayingLaws.{piece, then-piece, a-line}
-use Rattle.judge.proofs.refusing.refused_line.Statement.{statement}
-use Rattle.judge.proofs.refusing.refused_line.Tie as tie
+use Rattle.refusal_lines.proofs.refused_line.Statement.{statement}
+use Rattle.refusal_lines.proofs.refused_line.Tie as tie
 
 returns : tie.Need-returns
 unfolding refusedLine
