@@ -4,12 +4,10 @@ ghost use Prim.Native.Nat.{ℕ};
 ghost use Rattle.rules.specs.Printing.{printedFor};
 ghost use Rattle.io.specs.Counts.{Counts};
 ghost use Rattle.decimal.specs.Laying.{Laid};
-ghost use Rattle.lotreport.specs.Input.{BeginsWith};
+ghost use Rattle.program_input.specs.Input.{BeginsWith};
 use libc::STDIN_FILENO;
 use libc::STDOUT_FILENO;
-
-// Places for the sheet: what an input has behind them makes no difference to what is printed.
-const SHEET: usize = 4096;
+use program_input::SHEET;
 
 // Places for the text: none that is printed is longer.
 const TEXT: usize = 256;
@@ -19,9 +17,7 @@ fn answer(sheet: &[u8; SHEET], read: usize, text: &mut [u8; TEXT]) -> usize
     ensures { λ r. ⌜ ((input : List ℕ) → BeginsWith input (now (sheet .entry)) read → Laid (printedFor input) (now (text .entry)) (now (text .exit)) r) ⌝ }
     ensures { λ r. ⌜ Counts r (now (text .exit)) ⌝ }
 {
-    let all: &[u8] = sheet;
-    let n = checks::least(read, SHEET);
-    let printed = judge::judge(&all[..n], text);
+    let printed = judge::judge(program_input::sheet_of(sheet, read), text);
     answers::printed_size(printed).size
 }
 

@@ -30,7 +30,7 @@ pick-most : (b : Bool) (x y : List ℕ) (n : ℕ) → length x ≤ n → length 
 pick-most true x y n h k = h
 pick-most false x y n h k = k
 
-refused-most : (e line : ℕ) → length (refusedLine e line) ≤ 50
+pub refused-most : (e line : ℕ) → length (refusedLine e line) ≤ 50
 unfolding refusedLine
 refused-most e line = simp length-append (omega (arith, length-decimal e, length-decimal line))
 

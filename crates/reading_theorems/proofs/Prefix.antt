@@ -18,7 +18,7 @@ use Rattle.rules.specs.Reading.{State, Next, goes, stops, SheetOutcome, refused
 use Rattle.rules.specs.Printing.{printed, printedFor}
 use Rattle.rules.specs.declared.Frame.the-variants.{Bad}
 use Rattle.rules.proofs.Taken.{taken}
-use Rattle.reading_theorems.specs.Lengths.{PrefixDecides}
+use Rattle.reading_theorems.specs.Lengths.{bytesThatDecide, PrefixDecides}
 use Rattle.reading_theorems.proofs.Fitting.{frame-fits}
 use Rattle.reading_theorems.proofs.Falling.{room, falls, room-start}
 
@@ -77,6 +77,11 @@ decided (x ∷ xs) sofar t n (suc k) h j =
         long (yes q) = g q
         long (no q) = long-line (take k xs) (sofar ++ byte x) t n (omega arith) ∙ sym (long-line xs (sofar ++ byte x) t n (omega arith))
 
+-- the first bytes decide what a sheet is read as
+pub prefix-read : (s : List ℕ) (k : ℕ) → bytesThatDecide ≤ k → readOf (take k s) ≡ readOf s
+unfolding readOf
+prefix-read s k h = decided s [] atStart 0 k (omega arith) (omega (arith, room-start))
+
 pub prefix-printed : PrefixDecides
-unfolding printedFor readOf
-prefix-printed s k h = ap printed (decided s [] atStart 0 k (omega arith) (omega (arith, room-start)))
+unfolding printedFor
+prefix-printed s k h = ap printed (prefix-read s k h)
