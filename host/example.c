@@ -9,8 +9,10 @@ static void print(const char *call, uint64_t answer)
 {
     if (answer < GELVORIN_REFUSED)
         printf("%s: %" PRIu64 "\n", call, answer);
+    else if (GELVORIN_FILE(answer) == 0)
+        printf("%s: refused with %" PRIu32 "\n", call, GELVORIN_NUMBER(answer));
     else
-        printf("%s: refused with %" PRIu64 "\n", call, answer - GELVORIN_REFUSED);
+        printf("%s: refused with %" PRIu32 " at file %" PRIu32 ", line %" PRIu32 "\n", call, GELVORIN_NUMBER(answer), GELVORIN_FILE(answer), GELVORIN_LINE(answer));
 }
 
 /* A sheet whose results do not stand in the order of their containers; one is weighed. */
@@ -34,6 +36,35 @@ static void print_text(const char *call, uint64_t (*function)(const uint8_t *, s
     print(call, answer);
     if (answer < GELVORIN_REFUSED)
         fwrite(buffer, 1, answer, stdout);
+}
+
+/* The same with the calls on a sheet. */
+static void print_sheet(const char *call, uint64_t answer, const uint8_t *buffer)
+{
+    print(call, answer);
+    if (answer < GELVORIN_REFUSED)
+        fwrite(buffer, 1, answer, stdout);
+}
+
+static void print_enter(const char *call, size_t length, uint32_t container, uint32_t x, size_t size)
+{
+    uint8_t buffer[4096];
+
+    print_sheet(call, gelvorin_enter((const uint8_t *)sheet, length, container, x, buffer, size), buffer);
+}
+
+static void print_withdraw(const char *call, size_t length, uint32_t container, size_t size)
+{
+    uint8_t buffer[4096];
+
+    print_sheet(call, gelvorin_withdraw((const uint8_t *)sheet, length, container, buffer, size), buffer);
+}
+
+static void print_list(const char *call, size_t length, const char *list, size_t size)
+{
+    uint8_t buffer[4096];
+
+    print_sheet(call, gelvorin_enter_list((const uint8_t *)sheet, length, (const uint8_t *)list, strlen(list), buffer, size), buffer);
 }
 
 int main(void)
@@ -63,5 +94,18 @@ int main(void)
     print_text("the sheet written back", gelvorin_rewrite, length, 4096);
     print_text("the sheet written back into 40 bytes", gelvorin_rewrite, length, 40);
     print_text("the first 40 bytes of the sheet written back", gelvorin_rewrite, 40, 4096);
+    print_enter("98.50 entered for container 2", length, 2, 9850, 4096);
+    print_enter("98.50 entered for container 41", length, 41, 9850, 4096);
+    print_enter("98.50 entered into 40 bytes", length, 2, 9850, 40);
+    print_enter("98.50 entered on the first 40 bytes", 40, 2, 9850, 4096);
+    print_withdraw("container 12 withdrawn", length, 12, 4096);
+    print_withdraw("container 13 withdrawn", length, 13, 4096);
+    print_withdraw("container 12 withdrawn into 40 bytes", length, 12, 40);
+    print_withdraw("container 12 withdrawn from the first 40 bytes", 40, 12, 4096);
+    print_list("a list entered", length, "2,98.5\n1,100\n", 4096);
+    print_list("a list with a bad line", length, "2,98.5\n1,.5\n", 4096);
+    print_list("a list with a container twice", length, "2,98.5\n4,97\n2,98.5\n", 4096);
+    print_list("a list entered into 40 bytes", length, "2,98.5\n", 40);
+    print_list("a list entered on the first 40 bytes", 40, "2,98.5\n", 4096);
     return 0;
 }

@@ -2,7 +2,7 @@
  *
  * Whatever the numbers and whatever the bytes of its lists, a call ends, and answers a value or a refusal; none relies on its caller
  * having looked first. Each answers one number: the value, which is below GELVORIN_REFUSED, or GELVORIN_REFUSED and the number of the
- * refusal (README.md has their table).
+ * refusal (README.md has their table), to which a call on a sheet adds the file and the line of the fault.
  *
  * A list is passed as a pointer to its first element and the number of its elements behind it. What a pointer points to is the
  * caller's to get right, since no call can see it:
@@ -28,6 +28,13 @@ extern "C" {
 
 /* What is added to a refusal's number. */
 #define GELVORIN_REFUSED UINT64_C(4294967296)
+
+/* The parts of a refusal: its number; and of a call on a sheet (gelvorin_enter, gelvorin_withdraw, gelvorin_enter_list) the file that
+ * the fault stands in, 1 for the sheet and 2 for the list, and its line there, counted from 1. Both are 0 where the fault stands in
+ * neither, and for every other call. */
+#define GELVORIN_NUMBER(answer) ((uint32_t)((answer)&0xFF))
+#define GELVORIN_FILE(answer) ((uint32_t)((answer) >> 8 & 0xFF))
+#define GELVORIN_LINE(answer) ((uint32_t)((answer) >> 16 & 0xFFFF))
 
 /* The number of primary samples for a number of containers of so many whole kilograms each (ISTA 2.5.1.2).
  * Refused with 17, outside the table: either is 0 or above 65535. */
@@ -68,6 +75,26 @@ uint64_t gelvorin_judge(const uint8_t *sheet, size_t length, uint8_t *buffer, si
  * front of the buffer; the bytes behind it stay as they were.
  * Refused with the number of the sheet's first fault (1 to 9, 14, 18, 19), or with 16, buffer short; then the buffer stays as it was. */
 uint64_t gelvorin_rewrite(const uint8_t *sheet, size_t length, uint8_t *buffer, size_t size);
+
+/* The calls on a sheet. A host keeps the state of a lot as its sheet: each call reads it, makes one call on its tally and writes the sheet
+ * after it, as gelvorin_rewrite does, so the sheet that one call wrote is what the next is given. 2629 bytes are room for every sheet
+ * that is written. Each answers the length of the sheet, which stands at the front of the buffer; the bytes behind it stay as they were.
+ * Where a call is refused, the buffer stays as it was. The first refusal that applies is told, in this order: the sheet's first fault,
+ * with file 1 and its line (1 to 9, 14, 18, 19); that of the call; 16, buffer short. */
+
+/* Enters a result: x for a container, in hundredths of a percent or in whole seeds.
+ * Refused with 6, no such container: 0 or above the number of containers; 7, result too high: above 10000; 8, already held; 9, full: 60
+ * results are held. These have neither file nor line. */
+uint64_t gelvorin_enter(const uint8_t *sheet, size_t length, uint32_t container, uint32_t x, uint8_t *buffer, size_t size);
+
+/* Withdraws the result of a container.
+ * Refused with 10, not held, with neither file nor line. */
+uint64_t gelvorin_withdraw(const uint8_t *sheet, size_t length, uint32_t container, uint8_t *buffer, size_t size);
+
+/* Enters a comma list: lines of container, comma, value, each ended by byte 0A, in plain decimal digits; a percentage may have a point
+ * and one or two digits behind it. A list without a line is accepted. A faulty line ends the list, and none of it is entered.
+ * Refused with 20, bad list line; else with 6, 7, 8 or 9 as the line's enter is; with file 2 and the line. */
+uint64_t gelvorin_enter_list(const uint8_t *sheet, size_t length, const uint8_t *list, size_t list_length, uint8_t *buffer, size_t size);
 
 #ifdef __cplusplus
 }

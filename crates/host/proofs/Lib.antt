@@ -1,1 +1,3 @@
 pub mod CodingLaws
+pub mod FewLines
+pub mod CallLaws

@@ -1,10 +1,13 @@
 -- What a call that writes answers a host program.
 use mathlib.Core.List.{List}
 use Prim.Native.Nat.{ℕ}
+use lib.Dec.{eqb}
+use Rattle.rules.specs.Choice.{pick}
 use Rattle.rules.specs.Numbers.{TextAnswer}
 use Rattle.rules.specs.Reading.{SheetOutcome, accepted, refused, readOf}
 use Rattle.rules.specs.Writing.{writeOn}
-use Rattle.codes.specs.Codes.{refusalCode, codeOf}
+use Rattle.rules.specs.OnSheets.{SheetAnswer}
+use Rattle.codes.specs.Codes.{refusalCode, codeOf, faultCode}
 
 -- what a call answers, and the whole buffer afterwards
 pub record CodeAndBytes : Type 0 where
@@ -24,3 +27,7 @@ writtenBack (refused e line) d = codeAndBytes (refusalCode e) d
 
 abbrev pub rewriteOn : List ℕ → List ℕ → CodeAndBytes
 rewriteOn sheet d = writtenBack (readOf sheet) d
+
+-- a call on a sheet: the length of the sheet after it; or the refusal, with the file and the exact line of its fault
+abbrev pub callCode : SheetAnswer → CodeAndBytes
+callCode a = codeAndBytes (pick (eqb (a .number) 0) (a .size) (faultCode (a .number) (a .file) (a .line))) (a .bytes)

@@ -7,8 +7,9 @@ ghost use Rattle.rules.specs.Sampling.{samplingOf};
 ghost use Rattle.rules.specs.Tolerance.{labelOf, pairOf};
 ghost use Rattle.rules.specs.Mixing.{mixingOf};
 ghost use Rattle.rules.specs.Printing.{printOn};
+ghost use Rattle.rules.specs.OnSheets.{enterSheet, withdrawSheet, enterListSheet};
 ghost use Rattle.codes.specs.Codes.{answerCode};
-ghost use Rattle.host.specs.Coding.{codeAndBytes, textCode, rewriteOn};
+ghost use Rattle.host.specs.Coding.{codeAndBytes, textCode, rewriteOn, callCode};
 use codes::REFUSED;
 use rules::Pans;
 use sheet::Answer;
@@ -85,4 +86,28 @@ pub extern "C" fn gelvorin_rewrite(sheet: &[u8], buf: &mut [u8]) -> u64
         Answer::Accepted(_) => codes::size_code(answers::written_size(writer::write(tally, buf))),
         Answer::Refused(e, _) => REFUSED + e.number() as u64,
     }
+}
+
+// Enters a result for a container, and writes the sheet after it.
+#[no_mangle]
+pub extern "C" fn gelvorin_enter(sheet: &[u8], container: u32, x: u32, buf: &mut [u8]) -> u64
+    ensures { λ r. ⌜ codeAndBytes r (now (buf .exit)) ≡ callCode (enterSheet (now (sheet .entry)) container x (now (buf .entry))) ⌝ }
+{
+    codes::call_code(sheet_calls::enter(sheet, container, x, buf))
+}
+
+// Withdraws the result of a container, and writes the sheet after it.
+#[no_mangle]
+pub extern "C" fn gelvorin_withdraw(sheet: &[u8], container: u32, buf: &mut [u8]) -> u64
+    ensures { λ r. ⌜ codeAndBytes r (now (buf .exit)) ≡ callCode (withdrawSheet (now (sheet .entry)) container (now (buf .entry))) ⌝ }
+{
+    codes::call_code(sheet_calls::withdraw(sheet, container, buf))
+}
+
+// Enters the results of a comma list, and writes the sheet after it.
+#[no_mangle]
+pub extern "C" fn gelvorin_enter_list(sheet: &[u8], list: &[u8], buf: &mut [u8]) -> u64
+    ensures { λ r. ⌜ codeAndBytes r (now (buf .exit)) ≡ callCode (enterListSheet (now (sheet .entry)) (now (list .entry)) (now (buf .entry))) ⌝ }
+{
+    codes::call_code(sheet_calls::enter_list(sheet, list, buf))
 }
