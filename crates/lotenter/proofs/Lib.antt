@@ -1,0 +1,4 @@
+pub mod Fitting
+pub mod Ending
+pub mod Entering
+pub mod Telling
