@@ -1,11 +1,11 @@
 -- The tally and the ledger after the same calls. Assumes nothing.
-use Prim.Native.Nat.{ℕ}
 use native.Mathlib.Decide.{ℕ-discrete}
 use mathlib.Core.Path.{_≡_, refl, sym, ap, ap₂, _∙_, subst}
 use mathlib.Core.List.{List, _∷_}
 use denote.Ref.{now}
 use Rattle.rules.specs.Numbers.{numberOf}
 use Rattle.rules.specs.Ledger.{Ledger, Judged, freshLedger, openOn, enterOn, weighOn, withdrawOn, joinOn}
+use Rattle.rules.specs.ListReading.{Listed, listOn}
 use Rattle.rules.specs.Cards.{openNumber}
 use Rattle.rules.specs.declared.Lot.{Lot}
 use Rattle.rules.specs.declared.Card.{Card}
@@ -15,15 +15,15 @@ use Rattle.held_lists.specs.Places.{stored}
 use Rattle.tally.specs.View.{view}
 use Rattle.tally.specs.Calls.{Sound, Opened, answer}
 use Rattle.tally.proofs.Answer.{fresh-sound}
-use Rattle.sheet.specs.declared.Answer.{Answer}
+use Rattle.sheet.specs.declared.Answer as sheet-answer
 use Rattle.sheet.specs.Promise.{outcomeOf}
 use Rattle.reading_theorems.proofs.Spelt.{spelled}
-use Rattle.history.specs.Calls.{Calls, judge, ledger, answers}
-use Rattle.history.specs.Run.{Run, begun, taken, opened, entered, weighed, withdrawn, joined, read}
+use Rattle.history.specs.Calls.{Calls, judge, ledger, Answer, numbered, withLine, answers}
+use Rattle.history.specs.Run.{Run, begun, taken, opened, entered, weighed, withdrawn, joined, listed, read}
 use Rattle.history.proofs.Sheets.{made-ledger, made-answers}
 
 -- the tally and the ledger after the same calls
-pub record Agrees (cs : Calls) (ns : List ℕ) (t : Tally) : Type 0 where
+pub record Agrees (cs : Calls) (ns : List Answer) (t : Tally) : Type 0 where
   pub same : view t ≡ ledger cs
   pub judged : ns ≡ answers cs
   pub sound : Sound t
@@ -37,14 +37,14 @@ open-sound t l c r s o = go (ℕ-discrete (numberOf (r .refusal)) 0)
     go (no h) = subst Sound (sym (o .kept h)) s
 
 -- one more call, answered as the ledger judges it
-further : {ns ms : List ℕ} (r : Outcome) (j : Judged) → answer r ≡ j → ns ≡ ms → (view (r .tally) ≡ j .ledger) × (numberOf (r .refusal) ∷ ns ≡ j .number ∷ ms)
-further r j e p = (ap (λ (i : Judged). i .ledger) e, ap₂ _∷_ (ap (λ (i : Judged). i .number) e) p)
+further : {ns ms : List Answer} (r : Outcome) (j : Judged) → answer r ≡ j → ns ≡ ms → (view (r .tally) ≡ j .ledger) × (numbered (numberOf (r .refusal)) ∷ ns ≡ numbered (j .number) ∷ ms)
+further r j e p = (ap (λ (i : Judged). i .ledger) e, ap₂ _∷_ (ap (λ (i : Judged). numbered (i .number)) e) p)
 
 -- an accepted open leaves nothing of what was there
 open-any : (g h : Ledger) (l : Lot) (c : Card) → openNumber l c ≡ 0 → openOn g l c ≡ openOn h l c
 open-any g h l c e = simp e
 
-pub agrees : {cs : Calls} {ns : List ℕ} {t : Tally} → Run cs ns t → Agrees cs ns t
+pub agrees : {cs : Calls} {ns : List Answer} {t : Tally} → Run cs ns t → Agrees cs ns t
 unfolding judge answers stored
 agrees (begun f) = record { same = ap view f; judged = refl; sound = rw f fresh-sound }
 agrees (taken {l = l} {c = c} {r = r} t o z) =
@@ -72,6 +72,10 @@ agrees (joined {r = r} t o u v j) =
     let h = agrees v in
     let e = further r _ (j .right (i .sound, h .sound) ∙ ap₂ (λ (f g : Ledger). joinOn f g) (i .same) (h .same)) (i .judged) in
     record { same = e .0; judged = e .1; sound = j .sound (i .sound, h .sound) }
+agrees (listed {r = r} κ t list u x) =
+    let i = agrees u in
+    let e = x .right (i .sound) ∙ ap (λ (g : Ledger). listOn g (now list)) (i .same) in
+    record { same = ap (λ (q : Listed). q .ledger) e; judged = ap₂ _∷_ (ap withLine e) (i .judged); sound = x .sound (i .sound) }
 agrees (read {n = n} {r = r} κ sheet x a) =
-    let m = spelled (now sheet) (view (r .tally)) n (sym (x .right) ∙ ap (λ (o : Answer). outcomeOf o (r .tally)) a) in
+    let m = spelled (now sheet) (view (r .tally)) n (sym (x .right) ∙ ap (λ (o : sheet-answer.Answer). outcomeOf o (r .tally)) a) in
     record { same = sym (made-ledger m); judged = made-answers m; sound = x .sound }

@@ -2,21 +2,27 @@
 use Prim.Native.Nat.{ℕ, _+_, _≤_}
 use native.Mathlib.Omega.{arith}
 use native.Mathlib.Decide.{ℕ-discrete}
-use mathlib.Core.Path.{_≡_, refl, sym, ap}
+use mathlib.Core.Path.{_≡_, refl, sym, ap, _∙_, subst}
 use mathlib.Core.Bool.{Bool, true, false, true≢false}
+use mathlib.Core.List.{List, [], _∷_}
 use lib.Dec.{eqb}
-use borrow.Author.Tests.{eqb-true, eq-eqb, ne-eqb}
+use lib.ListN.{length}
+use borrow.Author.Tests.{eqb-true, eqb-false, eq-eqb, ne-eqb}
 use Rattle.rules.specs.Choice.{pick}
 use Rattle.rules.specs.Contents.{Content, free, holds, put, isHeld, union, total, one}
 use Rattle.rules.specs.Cards.{openNumber}
 use Rattle.rules.specs.Weights.{weighingOf}
+use Rattle.rules.specs.Lines.{Line, linesOf}
+use Rattle.rules.specs.Attributes.{attributeOf}
 use Rattle.rules.specs.Ledger.{Ledger, containers, held, withContents, enterNumber, entered, weighNumber, withdrawNumber, joinNumber, opened}
+use Rattle.rules.specs.ListReading.{Says, bad, says, lineSays, lineOn, Listed, enterLines, listOn}
 use Rattle.rules.specs.declared.Lot.{Lot}
 use Rattle.rules.specs.declared.Card.{Card}
 use Rattle.rules.specs.declared.Pans.{Pans}
 use Rattle.rules.proofs.ContentLaws.{free-is, one-held, either-held, total-put, total-none, total-union}
 use Rattle.rules.proofs.LedgerLaws.{enter-tells, weigh-tells, withdraw-tells, join-tells}
-use Rattle.history.specs.Calls.{Calls, start, opens, enters, weighs, withdraws, joins, judge, ledger, Counts, noCounts, oneEntered, counts}
+use Rattle.rules.proofs.ListLaws.{lineStep, lines-go, lines-stop, lines-over, lines-held, list-refused}
+use Rattle.history.specs.Calls.{Calls, start, opens, enters, weighs, withdraws, joins, lists, judge, ledger, Counts, noCounts, moreEntered, counts}
 
 -- a container of the lot
 abbrev OfLot : Ledger → ℕ → Type 0
@@ -42,7 +48,7 @@ balanced-open : (l : Lot) (c : Card) → Balanced (opened l c) noCounts
 balanced-open l c = record { within = λ k e. absurd (true≢false (sym e)); even = omega (arith, total-none one (l .containers) refl) }
 
 balanced-enter : {g : Ledger} {c : Counts} (k x : ℕ) → Balanced g c → enterNumber g k x ≡ 0
-    → Balanced (entered g k x) (oneEntered c)
+    → Balanced (entered g k x) (moreEntered 1 c)
 balanced-enter {g} {c} k x f n =
     let h = enter-tells g k x n in
     record {
@@ -52,7 +58,7 @@ balanced-enter {g} {c} k x f n =
 
 -- an accepted weigh is an accepted enter
 balanced-weigh : {g : Ledger} {c : Counts} (k s : ℕ) (p : Pans) → Balanced g c → weighNumber g k (weighingOf s p) ≡ 0
-    → Balanced (entered g k (weighingOf s p .value)) (oneEntered c)
+    → Balanced (entered g k (weighingOf s p .value)) (moreEntered 1 c)
 balanced-weigh {g} k s p f n = balanced-enter k (weighingOf s p .value) f (weigh-tells g k (weighingOf s p) n .enters)
 
 balanced-withdraw : {g : Ledger} {c : Counts} (k : ℕ) → Balanced g c → withdrawNumber g k ≡ 0
@@ -88,6 +94,38 @@ balanced-cases {n} {g} {after} {c} {d} f a = go (eqb n 0) refl
     go true e = a (eqb-true n 0 e)
     go false e = f
 
+-- ---- a comma list
+-- a line that is taken is an accepted enter
+line-within : (g : Ledger) (s : Says) → HeldOfLot g → lineOn g s .number ≡ 0 → HeldOfLot (lineOn g s .ledger)
+line-within g bad w e = absurd (eqb-false 20 0 refl e)
+line-within g (says k x) w e =
+    let h = enter-tells g k x e in
+    rw (eq-eqb (enterNumber g k x) 0 e) (put-within g k (holds x) w (λ q. (h .above, h .inside)))
+
+lines-within : (was : Ledger) (ls : List Line) (g : Ledger) (n : ℕ) → HeldOfLot g → enterLines was ls g n .number ≡ 0 → HeldOfLot (enterLines was ls g n .ledger)
+lines-within was [] g n w e = subst (λ (r : Listed). HeldOfLot (r .ledger)) (sym (lines-over was g n)) w
+lines-within was (l ∷ ls) g n w e = go (ℕ-discrete (lineStep was l g .number) 0) (lines-within was ls (lineStep was l g .ledger) (n + 1))
+  where
+    go : Dec (lineStep was l g .number ≡ 0)
+        → (HeldOfLot (lineStep was l g .ledger) → enterLines was ls (lineStep was l g .ledger) (n + 1) .number ≡ 0 → HeldOfLot (enterLines was ls (lineStep was l g .ledger) (n + 1) .ledger))
+        → HeldOfLot (enterLines was (l ∷ ls) g n .ledger)
+    go (yes z) r =
+        let q = lines-go was l ls g n z in
+        subst (λ (r : Listed). HeldOfLot (r .ledger)) (sym q)
+        (r (line-within g (lineSays (attributeOf (was .lot .attribute)) l) w z) (sym (ap (λ (r : Listed). r .number) q) ∙ e))
+    go (no z) r = absurd (z (sym (ap (λ (r : Listed). r .number) (lines-stop was l ls g n z)) ∙ e))
+
+-- an accepted list holds one result more for each line, and a refused one changes nothing
+balanced-list : {g : Ledger} {c : Counts} (s : List ℕ) → Balanced g c → Balanced (listOn g s .ledger) (pick (eqb (listOn g s .number) 0) (moreEntered (length (linesOf s)) c) c)
+unfolding listOn
+balanced-list {g} {c} s f = go (eqb (listOn g s .number) 0) refl
+  where
+    go : (t : Bool) → eqb (listOn g s .number) 0 ≡ t → Balanced (listOn g s .ledger) (pick t (moreEntered (length (linesOf s)) c) c)
+    go true e =
+        let z = eqb-true (listOn g s .number) 0 e in
+        record { within = lines-within g (linesOf s) g 0 (f .within) z; even = omega (arith, f .even, lines-held g (linesOf s) g 0 z) }
+    go false e = subst (λ (h : Ledger). Balanced h c) (sym (list-refused g s (eqb-false (listOn g s .number) 0 e))) f
+
 pub balanced : (cs : Calls) → Balanced (ledger cs) (counts cs)
 unfolding judge counts
 balanced start = record { within = λ k e. absurd (true≢false (sym e)); even = omega (arith, total-none one 0 refl) }
@@ -96,3 +134,4 @@ balanced (enters cs k x) = balanced-cases (balanced cs) (balanced-enter k x (bal
 balanced (weighs cs k s p) = balanced-cases (balanced cs) (balanced-weigh k s p (balanced cs))
 balanced (withdraws cs k) = balanced-cases (balanced cs) (balanced-withdraw k (balanced cs))
 balanced (joins cs ds) = balanced-cases (balanced cs) (balanced-join (balanced cs) (balanced ds))
+balanced (lists cs s) = balanced-list s (balanced cs)

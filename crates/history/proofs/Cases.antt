@@ -1,13 +1,16 @@
--- Worked cases of lists of calls, computed on the ledger: each refusal's number, and which comes first where several apply.
--- Assumes nothing.
+-- Worked cases of lists of calls, computed on the ledger: each refusal's number, the line of a refused comma list, and which comes
+-- first where several apply. Assumes nothing.
 use Prim.Native.Nat.{ℕ, zero, suc, _+_, _-_, _/_}
 use mathlib.Core.Path.{_≡_, refl}
-use mathlib.Core.List.{List, [], _∷_, _++_}
+use mathlib.Core.List.{List, [], _∷_, _++_, map}
 use lib.ListN.{replicate}
 use lib.Ieee.{binary32, ofFields, ofBits, toBits}
 use Rattle.rules.specs.declared.Lot.{Lot}
 use Rattle.rules.specs.declared.Card.{Card}
 use Rattle.rules.specs.Numbers.{refusesText}
+use Rattle.rules.specs.Text.{text}
+use Rattle.rules.specs.Decimals.{allDecimal, valueBehind, decimalValue}
+use Rattle.rules.specs.Lines.{cutFrom}
 use Rattle.rules.specs.Contents.{total, shared}
 use Rattle.rules.specs.Rounding.{nearestOf}
 use Rattle.rules.specs.Floats.{exactOf}
@@ -16,7 +19,12 @@ use Rattle.rules.specs.Report.{reportOn}
 use Rattle.rules.specs.Writing.{writeOn}
 use Rattle.rules.specs.Limits.{mostHeld, mostRows, criticals}
 use Rattle.rules.specs.Cards.{headOf, cardOf, withRows, rowsGood, criticalsGood, agree, sameRows}
-use Rattle.history.specs.Calls.{Calls, start, opens, enters, weighs, withdraws, joins, judge, ledger, answers, counts}
+use Rattle.rules.specs.ListReading.{plainOf, first, hundredthsOf, percentOf, sayOf, enterLines, listOn}
+use Rattle.history.specs.Calls.{Calls, start, opens, enters, weighs, withdraws, joins, lists, judge, ledger, Answer, numbered, answers, counts}
+
+-- the answers of calls that are no comma lists
+abbrev given : List ℕ → List Answer
+given ns = map numbered ns
 
 -- an attribute and the number of containers
 abbrev lotOf : ℕ → ℕ → Lot
@@ -39,12 +47,12 @@ opened = opens start (lotOf 0 many) card
 
 -- an open: bad lot before bad card before card full; a refused one leaves what was there
 open-numbers : answers (opens (opens (opens (opens (opens (opens opened (lotOf 3 many) (cardWith 9 0 0 (mostRows + 1))) (lotOf 0 0) card) (lotOf 0 many) (cardWith 9 0 156 (mostRows + 1))) (lotOf 0 many) (cardWith 10 1 156 1)) (lotOf 2 many) card) (lotOf 1 many) (cardWith 10 0 0 (mostRows + 1)))
-    ≡ 5 ∷ 4 ∷ 4 ∷ 4 ∷ 3 ∷ 3 ∷ 0 ∷ []
+    ≡ given (5 ∷ 4 ∷ 4 ∷ 4 ∷ 3 ∷ 3 ∷ 0 ∷ [])
 unfolding answers judge criticalsGood rowsGood
 open-numbers = refl
 
 -- before an open: enter 6 whatever the arguments, withdraw 10
-fresh-numbers : answers (withdraws (enters (enters (enters start 0 10001) 1 0) 1 10001) 1) ≡ 10 ∷ 6 ∷ 6 ∷ 6 ∷ []
+fresh-numbers : answers (withdraws (enters (enters (enters start 0 10001) 1 0) 1 10001) 1) ≡ given (10 ∷ 6 ∷ 6 ∷ 6 ∷ [])
 unfolding answers judge
 fresh-numbers = refl
 
@@ -61,12 +69,12 @@ fresh-sheet b = refl
 abbrev some : Calls
 some = withdraws (withdraws (withdraws (withdraws (withdraws (enters (enters (enters (enters (enters (enters (enters opened 0 10001) (many + 1) 10001) 3 10001) 3 9800) 3 10001) 3 9700) 4 9700) 0) (many + 1)) 5) 3) 3
 
-enter-numbers : answers some ≡ 10 ∷ 0 ∷ 10 ∷ 10 ∷ 10 ∷ 0 ∷ 8 ∷ 7 ∷ 0 ∷ 7 ∷ 6 ∷ 6 ∷ 0 ∷ []
+enter-numbers : answers some ≡ given (10 ∷ 0 ∷ 10 ∷ 10 ∷ 10 ∷ 0 ∷ 8 ∷ 7 ∷ 0 ∷ 7 ∷ 6 ∷ 6 ∷ 0 ∷ [])
 unfolding answers judge criticalsGood rowsGood total
 enter-numbers = refl
 
 -- a place that was given up may be used again
-again-number : answers (enters some 3 9600) ≡ 0 ∷ answers some
+again-number : answers (enters some 3 9600) ≡ numbered 0 ∷ answers some
 unfolding answers judge criticalsGood rowsGood total
 again-number = refl
 
@@ -99,17 +107,17 @@ abbrev bad : ℕ
 bad = 0x8000_0000
 
 -- on a fresh tally 6, whatever the weights; out of turn for germination and counts, before 6
-weigh-fresh : answers (weighsBits (weighsBits start 1 1 bad) 1 0 good) ≡ 6 ∷ 6 ∷ []
+weigh-fresh : answers (weighsBits (weighsBits start 1 1 bad) 1 0 good) ≡ given (6 ∷ 6 ∷ [])
 unfolding answers judge weighedOf shareOf tenthsOf ratioOf badWeight exactOf nearestOf ofFields ofBits toBits
 weigh-fresh = refl
 
-weigh-other : answers (weighsBits (weighsBits (opens start (lotOf 1 many) card) 0 1 bad) 3 0 good) ≡ 2 ∷ 2 ∷ 0 ∷ []
+weigh-other : answers (weighsBits (weighsBits (opens start (lotOf 1 many) card) 0 1 bad) 3 0 good) ≡ given (2 ∷ 2 ∷ 0 ∷ [])
 unfolding answers judge criticalsGood rowsGood weighedOf shareOf tenthsOf ratioOf badWeight exactOf nearestOf ofFields ofBits toBits
 weigh-other = refl
 
 -- no such container, then already held, before not steady, before bad weight; an accepted one holds the container
 weigh-numbers : answers (weighsBits (weighsBits (weighsBits (weighsBits (weighsBits (weighsBits opened (many + 1) 1 bad) 3 1 bad) 3 0 bad) 3 0 good) 3 1 bad) 4 2 good)
-    ≡ 18 ∷ 8 ∷ 0 ∷ 19 ∷ 18 ∷ 6 ∷ 0 ∷ []
+    ≡ given (18 ∷ 8 ∷ 0 ∷ 19 ∷ 18 ∷ 6 ∷ 0 ∷ [])
 unfolding answers judge criticalsGood rowsGood total weighedOf shareOf tenthsOf ratioOf badWeight exactOf nearestOf ofFields ofBits toBits
 weigh-numbers = refl
 
@@ -165,3 +173,33 @@ counted = refl
 counted-anew : counts (enters (opens (filled opened 0 3) (lotOf 1 many) card) 2 9800) ≡ record { entered = 1; withdrawn = 0; joined = 0 }
 unfolding counts judge filled criticalsGood rowsGood total
 counted-anew = refl
+
+-- ---- comma lists
+-- refused with e at a line
+abbrev atLine : ℕ → ℕ → Answer
+atLine e n = record { number = e; line = n }
+
+-- two results more, one with a point and one without
+abbrev two : Calls
+two = lists opened (text "3,98.5\n4,97\n")
+
+-- an accepted list has no line; a bad line before no such container, and each refused list ends at its first fault
+list-numbers : answers (lists (lists (lists (lists two (text "5,98\n0,9x\n")) (text "5,98\n0,98\n4,\n")) (text "5,100.01\n")) (text "5,98\n6,97\n3,98\n"))
+    ≡ atLine 8 3 ∷ atLine 7 1 ∷ atLine 6 2 ∷ atLine 20 2 ∷ given (0 ∷ 0 ∷ [])
+unfolding answers judge criticalsGood rowsGood total listOn enterLines cutFrom sayOf plainOf percentOf hundredthsOf first allDecimal decimalValue valueBehind
+list-numbers = refl
+
+-- a refused list leaves the ledger, the results of its good lines too
+list-kept : ledger (lists two (text "5,98\n5,97\n")) ≡ ledger two
+unfolding judge criticalsGood rowsGood total listOn enterLines cutFrom sayOf plainOf percentOf hundredthsOf first allDecimal decimalValue valueBehind
+list-kept = refl
+
+-- before an open: a bad line is 20, any other 6, and a list without lines is accepted
+list-fresh : answers (lists (lists (lists start (text "1,2.5\n")) (text "1;2\n")) []) ≡ numbered 0 ∷ atLine 20 1 ∷ atLine 6 1 ∷ []
+unfolding answers judge total listOn enterLines cutFrom sayOf plainOf percentOf hundredthsOf first allDecimal decimalValue valueBehind
+list-fresh = refl
+
+-- the lines of an accepted list count as entered, those of a refused one do not
+list-counted : counts (lists (enters two 5 9800) (text "6,98\n3,98\n")) ≡ record { entered = 3; withdrawn = 0; joined = 0 }
+unfolding counts judge criticalsGood rowsGood total listOn enterLines cutFrom sayOf plainOf percentOf hundredthsOf first allDecimal decimalValue valueBehind
+list-counted = refl

@@ -1,4 +1,4 @@
--- Two reports of one ledger, its sheet written twice, and the text of a report. Assumes nothing.
+-- Two reports of one ledger, its sheet and its list written twice, and the text of a report. Assumes nothing.
 use Prim.Native.Nat.{ℕ, _≤_}
 use mathlib.Core.Path.{_≡_, refl, sym, ap, ap₂, _∙_}
 use mathlib.Core.Bool.{Bool, true, false}
@@ -8,17 +8,20 @@ use lib.ListN.{length, take}
 use borrow.Author.Tests.{eqb-false, ltb-false}
 use Rattle.rules.specs.Choice.{pick}
 use Rattle.rules.specs.Limits.{leastReported}
-use Rattle.rules.specs.Numbers.{TextAnswer, withBytes, refusesText, reportedAnswer, reportedSize, writtenAnswer, writtenSize}
+use Rattle.rules.specs.Numbers.{TextAnswer, withBytes, refusesText, reportedAnswer, reportedSize, writtenAnswer, writtenSize, printedAnswer, printedSize}
 use Rattle.rules.specs.Text.{laid, laidIn}
 use Rattle.rules.specs.Report.{reportOf, reportOn}
 use Rattle.rules.specs.Writing.{sheetOf, writeOn}
+use Rattle.rules.specs.ListWriting.{listOf, writeListOn}
 use Rattle.rules.specs.Ledger.{Ledger, held, containers}
 use Rattle.rules.specs.declared.TextSize.{TextSize}
 use Rattle.rules.specs.declared.Reported.{Reported}
 use Rattle.rules.specs.declared.Reported.the-variants as reported
 use Rattle.rules.specs.declared.Written.{Written}
 use Rattle.rules.specs.declared.Written.the-variants as written
-use Rattle.history.specs.Alike.{SameText, SameReport, SameSheet}
+use Rattle.rules.specs.declared.Printed.{Printed}
+use Rattle.rules.specs.declared.Printed.the-variants as printed
+use Rattle.history.specs.Alike.{SameText, SameReport, SameSheet, SameList}
 use Rattle.history.proofs.Texts.{withText, front-and-rest, laid-text}
 
 -- ---- two answers of a call that writes, whose number and length tell the answer: for one text, or one refusal before it
@@ -62,7 +65,15 @@ written-is (written.Length n) = refl
 written-is written.BadLot = refl
 written-is written.BufferShort = refl
 
--- two reports of one ledger, and its sheet written twice
+printedOf : ℕ → ℕ → Printed
+printedOf e n = pick (eqb e 16) printed.BufferShort (printed.Length n)
+
+printed-is : (r : Printed) → printedOf (printedSize r .number) (printedSize r .size) ≡ r
+unfolding printedOf
+printed-is (printed.Length n) = refl
+printed-is printed.BufferShort = refl
+
+-- two reports of one ledger, and its sheet and its list written twice
 pub same-report : (g : Ledger) (b₁ b₂ : List ℕ) (r₁ r₂ : Reported) (a₁ a₂ : List ℕ) → length b₁ ≡ length b₂
     → reportedAnswer r₁ a₁ ≡ reportOn g b₁ → reportedAnswer r₂ a₂ ≡ reportOn g b₂ → SameReport b₁ b₂ r₁ r₂ a₁ a₂
 same-report g b₁ b₂ r₁ r₂ a₁ a₂ = same-text reportedSize reportedOf reported-is b₁ b₂ r₁ r₂ a₁ a₂ (ltb (held g) leastReported) 15 (reportOf g)
@@ -70,6 +81,10 @@ same-report g b₁ b₂ r₁ r₂ a₁ a₂ = same-text reportedSize reportedOf 
 pub same-sheet : (g : Ledger) (b₁ b₂ : List ℕ) (r₁ r₂ : Written) (a₁ a₂ : List ℕ) → length b₁ ≡ length b₂
     → writtenAnswer r₁ a₁ ≡ writeOn g b₁ → writtenAnswer r₂ a₂ ≡ writeOn g b₂ → SameSheet b₁ b₂ r₁ r₂ a₁ a₂
 same-sheet g b₁ b₂ r₁ r₂ a₁ a₂ = same-text writtenSize writtenOf written-is b₁ b₂ r₁ r₂ a₁ a₂ (eqb (containers g) 0) 3 (sheetOf g)
+
+pub same-list : (g : Ledger) (b₁ b₂ : List ℕ) (r₁ r₂ : Printed) (a₁ a₂ : List ℕ) → length b₁ ≡ length b₂
+    → printedAnswer r₁ a₁ ≡ writeListOn g b₁ → printedAnswer r₂ a₂ ≡ writeListOn g b₂ → SameList b₁ b₂ r₁ r₂ a₁ a₂
+same-list g b₁ b₂ r₁ r₂ a₁ a₂ = same-text printedSize printedOf printed-is b₁ b₂ r₁ r₂ a₁ a₂ false 16 (listOf g)
 
 -- an accepted report is of at least five results, and its text is the ledger's
 module _ (g : Ledger) (b : List ℕ) (n : ℕ) (a : List ℕ) (e : reportedAnswer (reported.Length n) a ≡ reportOn g b) where

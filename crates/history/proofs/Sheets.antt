@@ -9,7 +9,7 @@ use Rattle.rules.specs.declared.Lot.{Lot}
 use Rattle.rules.specs.declared.Card.{Card}
 use Rattle.reading_theorems.specs.Spelling.{Entry, Made}
 use Rattle.reading_theorems.specs.Spelling as spelling
-use Rattle.history.specs.Calls.{Calls, start, opens, enters, judge, ledger, answers, entersAll}
+use Rattle.history.specs.Calls.{Calls, start, opens, enters, judge, ledger, numbered, answers, entersAll}
 
 -- one entry more
 all-more : (cs : Calls) (es : List Entry) (e : Entry) → entersAll cs (es ++ (e ∷ [])) ≡ enters (entersAll cs es) (e .container) (e .x)
@@ -27,11 +27,11 @@ made-ledger {l} {c} (spelling.enters {es = es} {g = g} k x m e) =
     ap ledger (all-more (opens start l c) es (record { container = k; x = x }))
     ∙ ap (λ (h : Ledger). enterOn h k x .ledger) (made-ledger m)
 
-pub made-answers : {l : Lot} {c : Card} {es : List Entry} {g : Ledger} → Made l c es g → replicate (suc (length es)) 0 ≡ answers (entersAll (opens start l c) es)
-made-answers (spelling.opens e) = unfold entersAll answers judge in ap (λ (n : ℕ). n ∷ []) (sym e)
+pub made-answers : {l : Lot} {c : Card} {es : List Entry} {g : Ledger} → Made l c es g → replicate (suc (length es)) (numbered 0) ≡ answers (entersAll (opens start l c) es)
+made-answers (spelling.opens e) = unfold entersAll answers judge in ap (λ (n : ℕ). numbered n ∷ []) (sym e)
 made-answers {l} {c} (spelling.enters {es = es} {g = g} k x m e) =
-    ap (λ (n : ℕ). replicate (suc n) 0) (one-more es (record { container = k; x = x }))
-    ∙ (ap₂ _∷_ (number m e) (made-answers m) ∙ sym (ap answers (all-more (opens start l c) es (record { container = k; x = x })) ∙ unfold answers judge in refl))
+    ap (λ (n : ℕ). replicate (suc n) (numbered 0)) (one-more es (record { container = k; x = x }))
+    ∙ (ap₂ _∷_ (ap numbered (number m e)) (made-answers m) ∙ sym (ap answers (all-more (opens start l c) es (record { container = k; x = x })) ∙ unfold answers judge in refl))
   where
     number : Made l c es g → enterOn g k x .number ≡ 0 → 0 ≡ enterOn (ledger (entersAll (opens start l c) es)) k x .number
     number m e = sym (ap (λ (h : Ledger). enterOn h k x .number) (made-ledger m) ∙ e)

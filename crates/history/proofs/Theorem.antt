@@ -9,22 +9,24 @@ use Rattle.rules.specs.Limits.{leastReported}
 use Rattle.rules.specs.Contents.{Contents, total, size}
 use Rattle.rules.specs.Report.{reportOn}
 use Rattle.rules.specs.Writing.{writeOn}
+use Rattle.rules.specs.ListReading.{listOn}
+use Rattle.rules.specs.ListWriting.{writeListOn}
 use Rattle.rules.specs.Ledger.{Ledger, held, openOn, enterOn, weighOn, withdrawOn, joinOn}
 use Rattle.rules.proofs.Bounds.{opened-head}
 use Rattle.tally.specs.declared.Tally.{Tally}
 use Rattle.tally.specs.View.{view}
 use Rattle.tally.specs.Calls.{Sound}
 use Rattle.tally.proofs.Steps.{size-is}
-use Rattle.history.specs.Calls.{Calls, ledger}
+use Rattle.history.specs.Calls.{Calls, ledger, Answer}
 use Rattle.history.specs.Run.{Run}
 use Rattle.history.specs.Whole.{Ends, Whole}
 use Rattle.history.specs.Alike.{OrderIsFree}
 use Rattle.history.proofs.Balance.{balanced}
 use Rattle.history.proofs.Agreement.{agrees}
 use Rattle.history.proofs.Printed.{lines}
-use Rattle.history.proofs.Reporting.{same-report, same-sheet, enough, text-is}
+use Rattle.history.proofs.Reporting.{same-report, same-sheet, same-list, enough, text-is}
 
-ends : (cs : Calls) (ns : List ℕ) (t : Tally) → Run cs ns t → Ends cs ns t
+ends : (cs : Calls) (ns : List Answer) (t : Tally) → Run cs ns t → Ends cs ns t
 ends cs ns t r =
     let i = agrees r in
     record {
@@ -78,8 +80,14 @@ order-is-free cs ds ns ms t u p q e =
           let m = agrees f in
           let n = agrees h in
           a .right (i .sound, m .sound) ∙ (ap₂ (λ (x y : Ledger). joinOn x y) s (m .same ∙ (d ∙ sym (n .same))) ∙ sym (b .right (j .sound, n .sound)));
+      lists = λ κ₁ κ₂ l₁ l₂ e r w a b.
+          a .right (i .sound) ∙ (ap₂ (λ (g : Ledger) (l : List ℕ). listOn g l) s e ∙ sym (b .right (j .sound)));
       writes = λ κ₁ κ₂ b₁ b₂ l r₁ r₂ a₁ a₂ x y.
           same-sheet (view t) (now b₁) (now b₂) r₁ r₂ (now a₁) (now a₂) l
           (x .right (i .sound))
           (y .right (j .sound) ∙ ap (λ (g : Ledger). writeOn g (now b₂)) (sym s));
+      writesList = λ κ₁ κ₂ b₁ b₂ l r₁ r₂ a₁ a₂ x y.
+          same-list (view t) (now b₁) (now b₂) r₁ r₂ (now a₁) (now a₂) l
+          (x .right (i .sound))
+          (y .right (j .sound) ∙ ap (λ (g : Ledger). writeListOn g (now b₂)) (sym s));
     }

@@ -23,7 +23,7 @@ use Rattle.rules.specs.declared.Limit.the-variants.{Absent, At}
 use Rattle.rules.specs.declared.Reported.the-variants as reported
 use Rattle.rules.specs.declared.Printed.the-variants as printed
 use Rattle.tally.specs.declared.Tally.{Tally}
-use Rattle.history.specs.Calls.{Calls, ledger}
+use Rattle.history.specs.Calls.{Calls, ledger, Answer}
 use Rattle.history.specs.Run.{Run}
 use Rattle.history.specs.Steps.{ReportStep, JudgeStep}
 use Rattle.history.specs.Verdict.{MeanIsBeyond}
@@ -66,7 +66,7 @@ pub record RangeLines (g : Ledger) (report : List ℕ) : Type 0 where
 
 pub record EveryRange : Type 0 where
   -- the report of every tally that a list of calls ends with
-  pub reports : (cs : Calls) (ns : List ℕ) (t : Tally) → Run cs ns t → (κ : Lft) (b : RefT (List ℕ)) (n : ℕ) (a : RefT (List ℕ)) → ReportStep κ t b (reported.Length n) a → RangeLines (ledger cs) (take n (now a))
+  pub reports : (cs : Calls) (ns : List Answer) (t : Tally) → Run cs ns t → (κ : Lft) (b : RefT (List ℕ)) (n : ℕ) (a : RefT (List ℕ)) → ReportStep κ t b (reported.Length n) a → RangeLines (ledger cs) (take n (now a))
   -- what is printed for every sheet that is accepted and has enough results
   pub sheets : (κ₁ κ₂ : Lft) (sheet before : RefT (List ℕ)) (n : ℕ) (after : RefT (List ℕ)) → JudgeStep κ₁ κ₂ sheet before (printed.Length n) after
       → (g : Ledger) (lines : ℕ) → readOf (now sheet) ≡ accepted g lines → leastReported ≤ held g → RangeLines g (take n (now after))

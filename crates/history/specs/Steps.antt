@@ -21,6 +21,9 @@ use Rattle.writer.proofs.write.Reads as write-reads
 use Rattle.sheet.specs.declared.Reading.{Reading}
 use Rattle.sheet.proofs.read.Reads as read-reads
 use Rattle.judge.proofs.judge.Reads as judge-reads
+use Rattle.list_reader.specs.declared.Listing.{Listing}
+use Rattle.list_reader.proofs.read_list.Reads as read-list-reads
+use Rattle.list_writer.proofs.write_list.Reads as write-list-reads
 use Rattle.rules.specs.declared.Printed.{Printed}
 
 abbrev pub FreshStep : Tally → Type 0
@@ -41,6 +44,10 @@ WithdrawStep t k r = withdraw-reads.Learnt tt (t, (k, tt)) r (t, (k, tt))
 abbrev pub JoinStep : Tally → Tally → Outcome → Type 0
 JoinStep t o r = join-reads.Learnt tt (t, (o, tt)) r (t, (o, tt))
 
+-- a comma list read into t
+abbrev pub ListStep : Lft → Tally → RefT (List ℕ) → Listing → Type 0
+ListStep κ t list r = read-list-reads.Learnt (κ, tt) (t, (list, tt)) r (t, (list, tt))
+
 -- a report of t into the buffer that has `before`, and `after` as the call returns
 abbrev pub ReportStep : Lft → Tally → RefT (List ℕ) → Reported → RefT (List ℕ) → Type 0
 ReportStep κ t before r after = report-reads.Learnt (κ, tt) (t, (before, tt)) r (t, (after, tt))
@@ -48,6 +55,10 @@ ReportStep κ t before r after = report-reads.Learnt (κ, tt) (t, (before, tt)) 
 -- the sheet of t, written into the buffer that has `before`, and `after` as the call returns
 abbrev pub WriteStep : Lft → Tally → RefT (List ℕ) → Written → RefT (List ℕ) → Type 0
 WriteStep κ t before r after = write-reads.Learnt (κ, tt) (t, (before, tt)) r (t, (after, tt))
+
+-- the held results of t as a comma list, likewise
+abbrev pub WriteListStep : Lft → Tally → RefT (List ℕ) → Printed → RefT (List ℕ) → Type 0
+WriteListStep κ t before r after = write-list-reads.Learnt (κ, tt) (t, (before, tt)) r (t, (after, tt))
 
 -- a sheet that is read
 abbrev pub ReadStep : Lft → RefT (List ℕ) → Reading → Type 0

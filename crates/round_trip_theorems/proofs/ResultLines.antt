@@ -69,7 +69,7 @@ upto-size f (suc n) m z h =
       total-next f n,
     )
 
-total-rise : (f : Contents) (a b : ℕ) → a ≤ b → total one a f ≤ total one b f
+pub total-rise : (f : Contents) (a b : ℕ) → a ≤ b → total one a f ≤ total one b f
 total-rise f a zero h = let z : a ≡ 0 = omega arith in rw z (omega arith)
 total-rise f a (suc b) h = by (decLe a b) (λ (q : a ≤ b). total-rise f a b q)
   where

@@ -56,7 +56,7 @@ module _ (t : Tally) (d e : List ℕ) (r : ℕ) (s : Sound t) (q : wrote r e ≡
   laid : wrote r e ≡ laidIn (sheetOf (view t)) d
   laid = rw (ne-eqb (t .lot .containers) 0 (λ z. omega (arith, opened))) at q
 
-  laid-down : ReadsAs (take r e) (view t)
+  pub laid-down : ReadsAs (take r e) (view t)
   laid-down = rw (laid-text (sheetOf (view t)) d r e laid .0) (back (view t) (sound-writable t s opened))
 
   no-longer : r ≤ longestWritten

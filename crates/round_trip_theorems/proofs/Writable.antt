@@ -99,18 +99,17 @@ stored-low ks vs zero k x h e = no-place e
 stored-low ks vs (suc n) k x h e =
     low-put (stored ks vs n) (getD ks n 0) (getD vs n 0) k x (h n (omega arith)) (stored-low ks vs n k x (λ i q. h i (omega arith))) e
 
-pub sound-writable : (t : Tally) → Sound t → 1 ≤ t .lot .containers → Writable (view t)
-sound-writable t s h =
+pub sound-placed : (t : Tally) → Sound t → WritableResults (t .lot .containers) (view t .contents)
+sound-placed t s =
     record {
-      carded = carded (t .lot) (t .card) (s .good h) (s .few) (s .sized);
-      placed =
-          record {
-            none = stored-free (t .containers) (t .results) (t .held) 0 (λ i q e. omega (arith, s .above i q));
-            outside = λ k r. stored-free (t .containers) (t .results) (t .held) k (λ i q e. omega (arith, s .inside i q));
-            low = λ k x e. stored-low (t .containers) (t .results) (t .held) k x (s .low) e;
-            small = omega (arith, size-is t s, s .small);
-          };
+      none = stored-free (t .containers) (t .results) (t .held) 0 (λ i q e. omega (arith, s .above i q));
+      outside = λ k r. stored-free (t .containers) (t .results) (t .held) k (λ i q e. omega (arith, s .inside i q));
+      low = λ k x e. stored-low (t .containers) (t .results) (t .held) k x (s .low) e;
+      small = omega (arith, size-is t s, s .small);
     }
+
+pub sound-writable : (t : Tally) → Sound t → 1 ≤ t .lot .containers → Writable (view t)
+sound-writable t s h = record { carded = carded (t .lot) (t .card) (s .good h) (s .few) (s .sized); placed = sound-placed t s }
 
 -- ---- what a sheet yields: an open and its enters made it
 pub made-writable : (l : Lot) (c : Card) (es : List Entry) (g : Ledger) → l .containers ≤ widest → Sized c → Made l c es g → Writable g

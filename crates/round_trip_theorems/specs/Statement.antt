@@ -23,7 +23,7 @@ use Rattle.tally.specs.View.{view}
 use Rattle.tally.specs.declared.Tally.{Tally}
 use Rattle.sheet.specs.declared.Answer.the-variants.{Accepted}
 use Rattle.sheet.specs.declared.Reading.{Reading}
-use Rattle.history.specs.Calls.{Calls, start, opens, enters, judge, ledger}
+use Rattle.history.specs.Calls.{Calls, start, opens, enters, judge, ledger, Answer}
 use Rattle.history.specs.Run.{Run}
 use Rattle.history.specs.Steps.{WriteStep, ReadStep}
 
@@ -92,15 +92,15 @@ LastByteNeeded = printedFor (take (longestRead + mostDigits) oneLineMore) ≡ pr
 pub record Trip : Type 0 where
   -- what the writer's call laid down for a tally that a list of calls ends with, one read from a sheet among them: the reader's call
   -- accepts it, and what it yields is the list's ledger
-  pub back : (cs : Calls) (ns : List ℕ) (t : Tally) → Run cs ns t → (κ₁ : Lft) (b : RefT (List ℕ)) (n : ℕ) (a : RefT (List ℕ)) → WriteStep κ₁ t b (Length n) a
+  pub back : (cs : Calls) (ns : List Answer) (t : Tally) → Run cs ns t → (κ₁ : Lft) (b : RefT (List ℕ)) (n : ℕ) (a : RefT (List ℕ)) → WriteStep κ₁ t b (Length n) a
       → (κ₂ : Lft) (sheet : RefT (List ℕ)) (r : Reading) → now sheet ≡ take n (now a) → ReadStep κ₂ sheet r → Yields (now sheet) r (ledger cs)
   -- such a tally is written, in whatever order its results are stored, once a lot is opened and where the buffer has room for the
   -- longest sheet that is written
-  pub written : (cs : Calls) (ns : List ℕ) (t : Tally) → Run cs ns t → 1 ≤ containers (ledger cs) → (κ : Lft) (b : RefT (List ℕ)) (w : Written) (a : RefT (List ℕ)) → longestWritten ≤ length (now b) → WriteStep κ t b w a → WrittenAs w
+  pub written : (cs : Calls) (ns : List Answer) (t : Tally) → Run cs ns t → 1 ≤ containers (ledger cs) → (κ : Lft) (b : RefT (List ℕ)) (w : Written) (a : RefT (List ℕ)) → longestWritten ≤ length (now b) → WriteStep κ t b w a → WrittenAs w
   -- by the definitions: what any sheet is read as, the sheet that is written of it is read as again
   pub again : (sheet : List ℕ) (g : Ledger) (lines : ℕ) → readOf sheet ≡ accepted g lines → ReadsAs (sheetOf g) g
   -- no sheet that is written is longer than 2,629 bytes
-  pub short : (cs : Calls) (ns : List ℕ) (t : Tally) → Run cs ns t → (κ : Lft) (b : RefT (List ℕ)) (n : ℕ) (a : RefT (List ℕ)) → WriteStep κ t b (Length n) a → n ≤ longestWritten
+  pub short : (cs : Calls) (ns : List Answer) (t : Tally) → Run cs ns t → (κ : Lft) (b : RefT (List ℕ)) (n : ℕ) (a : RefT (List ℕ)) → WriteStep κ t b (Length n) a → n ≤ longestWritten
   -- and one has that length: each of these calls is accepted, and the sheet of what they end with is accepted
   pub calls : (n : ℕ) → n ≤ mostHeld → judge (filling n) .number ≡ 0
   pub long : length (sheetOf (ledger (filling mostHeld))) ≡ longestWritten
