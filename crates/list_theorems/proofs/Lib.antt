@@ -1,0 +1,5 @@
+pub mod Spelt
+pub mod Back
+pub mod Lengths
+pub mod Longest
+pub mod Trip
