@@ -1,7 +1,9 @@
--- The figures of a report, counted over the results of a sheet in their order.
+-- The figures of a report, counted over the results of a sheet in their order; and a line for each result, by ascending container.
 use Prim.Native.Nat.{ℕ, _+_, min, max}
-use mathlib.Core.List.{List, [], _∷_}
+use mathlib.Core.List.{List, [], _∷_, _++_}
+use lib.Dec.{ltb}
 use lib.ListN.{length}
+use Rattle.rules.specs.Choice.{pick}
 use Rattle.rules.specs.Limits.{widest}
 use Rattle.rules.specs.Contents.{Content, holds, value, square, valueOrWidest}
 use Rattle.rules.specs.declared.Figures.{Figures}
@@ -21,3 +23,22 @@ figuresOver es =
       smallest = gathered min valueOrWidest widest es;
       largest = gathered max value 0 es;
     }
+
+-- ---- by container
+-- a result among results of which each has a higher container than the next
+unfoldable pub insert : Entry → List Entry → List Entry
+insert e [] = e ∷ []
+insert e (d ∷ ds) = pick (ltb (d .container) (e .container)) (e ∷ d ∷ ds) (d ∷ insert e ds)
+
+unfoldable pub sortedOnto : List Entry → List Entry → List Entry
+sortedOnto ds [] = ds
+sortedOnto ds (e ∷ es) = sortedOnto (insert e ds) es
+
+-- the lines w of results, the last one's first
+unfoldable pub linesUp : (ℕ → ℕ → List ℕ) → List Entry → List ℕ
+linesUp w [] = []
+linesUp w (d ∷ ds) = linesUp w ds ++ w (d .container) (d .x)
+
+-- the lines w of results, by ascending container
+abbrev pub ascending : (ℕ → ℕ → List ℕ) → List Entry → List ℕ
+ascending w es = linesUp w (sortedOnto [] es)

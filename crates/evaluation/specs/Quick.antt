@@ -1,4 +1,4 @@
--- What lotreport prints, worked out with the results as a list beside the state, and no further into the bytes than they matter.
+-- What is printed for a sheet, worked out with the results as a list beside the state, and no further into the bytes than they matter.
 use Prim.Native.Nat.{ℕ, _+_}
 use mathlib.Core.Bool.{Bool, true, false}
 use mathlib.Core.List.{List, [], _∷_, _++_}
@@ -61,38 +61,48 @@ pub data Evaluated : Type 0 where
   shows : List ℕ → Evaluated
   unsettled : Evaluated
 
-abbrev pub evaluatedAfter : Next → ℕ → (State → Evaluated) → Evaluated
-evaluatedAfter (goes s) line k = k s
-evaluatedAfter (stops e) line k = shows (refusedLine e line)
+-- what is printed for the number and the line of a fault; and for an accepted sheet, by its ledger, its results and its lines
+pub record Printing : Type 0 where
+  pub fault : ℕ → ℕ → List ℕ
+  pub result : Ledger → List Entry → ℕ → List ℕ
 
+abbrev pub evaluatedAfter : Printing → Next → ℕ → (State → Evaluated) → Evaluated
+evaluatedAfter p (goes s) line k = k s
+evaluatedAfter p (stops e) line k = shows (p .fault e line)
+
+-- no bytes more, behind the bytes so far of a line
+abbrev pub atEnd : Printing → List ℕ → State → List Entry → ℕ → List ℕ
+atEnd p [] s es n = pick (isEnded (s .stage)) (p .result (s .ledger) es n) (p .fault 2 (n + 1))
+atEnd p (x ∷ xs) s es n = p .fault 1 (n + 1)
+
+-- The bytes that follow, behind the bytes so far of a line, n lines having been read; whole: nothing comes behind them.
+-- A byte behind as many as a frame's digits can be is a fault. By elim and not by pick: only what is chosen is computed.
+unfoldable pub quickFrom : Printing → Bool → List ℕ → List ℕ → State → List Entry → ℕ → Evaluated
+quickFrom p whole sofar [] s es n = pick whole (shows (atEnd p sofar s es n)) unsettled
+quickFrom p whole sofar (x ∷ xs) s es n =
+    elim (eqb x 10) [
+      | true ↦ evaluatedAfter p (stepAt (frameOf sofar) s) (n + 1) (λ t. quickFrom p whole [] xs t (es ++ entryOf (frameOf sofar)) (n + 1))
+      | false ↦ elim (leb mostDigits (length sofar)) [
+        | true ↦ shows (p .fault 1 (n + 1))
+        | false ↦ quickFrom p whole (sofar ++ byte x) xs s es n
+      ]
+    ]
+
+-- Of a whole sheet, or of every sheet that begins with these bytes. To unfold it is to unfold all that it computes with, so every
+-- definition of the reading that is not an abbrev stands here.
+unfoldable pub quickly : Printing → Bool → List ℕ → Evaluated
+unfolding quickFrom resultAt balanceAt frameOf kindFrame lotFrame cardFrame criticalFrame rangeFrame resultFrame endFrame balanceFrame allDigits fieldOf number numberBehind valueOf lotStep cardStep criticalStep rangeStep endStep rowsGood criticalsGood weighedOf shareOf tenthsOf ratioOf badWeight exactOf ofFields ofBits toBits nearestOf
+quickly p whole bytes = quickFrom p whole [] bytes atStart [] 0
+
+-- ---- lotreport
 -- an accepted sheet of n lines
 unfoldable pub report : Ledger → List Entry → ℕ → List ℕ
 report g es n = pick (ltb (length es) leastReported) (refusedLine 15 n) (reportText (g .lot) (g .card) (figuresOver es))
 
--- no bytes more, behind the bytes so far of a line
-abbrev pub atEnd : List ℕ → State → List Entry → ℕ → List ℕ
-atEnd [] s es n = pick (isEnded (s .stage)) (report (s .ledger) es n) (refusedLine 2 (n + 1))
-atEnd (x ∷ xs) s es n = refusedLine 1 (n + 1)
+abbrev pub reporting : Printing
+reporting = record { fault = refusedLine; result = report }
 
--- The bytes that follow, behind the bytes so far of a line, n lines having been read; whole: nothing comes behind them.
--- A byte behind as many as a frame's digits can be is a fault. By elim and not by pick: only what is chosen is computed.
-unfoldable pub quickFrom : Bool → List ℕ → List ℕ → State → List Entry → ℕ → Evaluated
-quickFrom whole sofar [] s es n = pick whole (shows (atEnd sofar s es n)) unsettled
-quickFrom whole sofar (x ∷ xs) s es n =
-    elim (eqb x 10) [
-      | true ↦ evaluatedAfter (stepAt (frameOf sofar) s) (n + 1) (λ t. quickFrom whole [] xs t (es ++ entryOf (frameOf sofar)) (n + 1))
-      | false ↦ elim (leb mostDigits (length sofar)) [
-        | true ↦ shows (refusedLine 1 (n + 1))
-        | false ↦ quickFrom whole (sofar ++ byte x) xs s es n
-      ]
-    ]
-
--- Of a whole sheet, and of every sheet that begins with these bytes. To unfold one of these is to unfold all that it computes with,
--- so every definition on the way to the printed bytes that is not an abbrev stands here.
-unfoldable pub quickOf : List ℕ → Evaluated
-unfolding quickFrom resultAt balanceAt report gathered figuresOver frameOf kindFrame lotFrame cardFrame criticalFrame rangeFrame resultFrame endFrame balanceFrame allDigits fieldOf number numberBehind valueOf lotStep cardStep criticalStep rangeStep endStep rowsGood criticalsGood refusedLine findingsText findingsOf countLine meanLine valueLine lotVerdictLine lotWord limitText verdictWord pointed decimal decimals lastDigits meanOf meanScale isVoid ratio reportedH exceeds toleratedUpto nearestOf weighedOf shareOf tenthsOf ratioOf badWeight exactOf ofFields ofBits toBits
-quickOf sheet = quickFrom true [] sheet atStart [] 0
-
-unfoldable pub quickBegins : List ℕ → Evaluated
-unfolding quickOf
-quickBegins bytes = quickFrom false [] bytes atStart [] 0
+-- with every definition on the way from the results to the printed bytes
+unfoldable pub quickReport : Bool → List ℕ → Evaluated
+unfolding quickly report gathered figuresOver refusedLine findingsText findingsOf countLine meanLine valueLine lotVerdictLine lotWord limitText verdictWord pointed decimal decimals lastDigits meanOf meanScale isVoid ratio reportedH exceeds toleratedUpto nearestOf
+quickReport whole bytes = quickly reporting whole bytes
