@@ -3,7 +3,8 @@
 //
 //     open TALLY ATTRIBUTE CONTAINERS F G n ROWS LOWEST HIGHEST BOUND TOLERATED N CRITICAL+1    enter TALLY CONTAINER X
 //     weigh TALLY CONTAINER STATUS COMPONENT REMAINDER (float bits as numbers)    withdraw TALLY CONTAINER
-//     join TALLY (the other)    report TALLY    write TALLY
+//     join TALLY (the other)    report TALLY    write TALLY    writelist TALLY
+//     list TALLY WORD WORD .. (a comma list: each word is one line of it)
 //     sampling CONTAINERS KILOGRAMS    label LABELLED FOUND    pair FIRST SECOND    mixing TOLERATED X X ..
 mod beside;
 mod lines;
@@ -69,13 +70,26 @@ fn reading_made(name: &[u8], t: Tally) -> bool {
         tallies::write(t);
         return true;
     }
+    if check::same(name, b"writelist") {
+        tallies::write_list(t);
+        return true;
+    }
     false
 }
 
 // The tally after a call on it.
-fn after(name: &[u8], t: Tally, other: Tally, numbers: &[u32; MOST_NUMBERS]) -> Tally {
+fn after(
+    name: &[u8],
+    words: &[u8],
+    t: Tally,
+    other: Tally,
+    numbers: &[u32; MOST_NUMBERS],
+) -> Tally {
     if reading_made(name, t) {
         return t;
+    }
+    if check::same(name, b"list") {
+        return tallies::list(t, words);
     }
     let outcome = changed(name, t, other, numbers);
     let refusal = outcome.refusal;
@@ -89,9 +103,10 @@ struct BothTallies {
     two: Tally,
 }
 
-// Both tallies after a line's call.
+// Both tallies after a line's call; the words are those behind the name, each with the blank before it.
 fn step(
     name: &[u8],
+    words: &[u8],
     both: BothTallies,
     numbers: &[u32; MOST_NUMBERS],
     count: usize,
@@ -102,10 +117,10 @@ fn step(
     let one = both.one;
     let two = both.two;
     if numbers[0] == 2 {
-        let next = after(name, two, one, numbers);
+        let next = after(name, words, two, one, numbers);
         return BothTallies { one, two: next };
     }
-    let next = after(name, one, two, numbers);
+    let next = after(name, words, one, two, numbers);
     BothTallies { one: next, two }
 }
 
@@ -119,8 +134,10 @@ fn run(text: &[u8]) {
         let mut numbers = [0u32; MOST_NUMBERS];
         let line = lines::line_at(text, at, &mut numbers);
         let end = line.end;
-        both = step(&text[at..end], both, &numbers, line.count);
-        at = line.next;
+        let last = line.last;
+        let next = last + 1;
+        both = step(&text[at..end], &text[end..last], both, &numbers, line.count);
+        at = next;
     }
 }
 

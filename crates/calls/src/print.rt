@@ -29,6 +29,15 @@ pub fn held(e: u32, results: usize) {
     number(results as u64);
 }
 
+// A comma list: its answer's number and line, and how many results are then held.
+pub fn listed(e: u32, line: usize, results: usize) {
+    io::print_decimal(STDOUT_FILENO, e as u64);
+    io::write_all(STDOUT_FILENO, b" ");
+    io::print_decimal(STDOUT_FILENO, line as u64);
+    io::write_all(STDOUT_FILENO, b" held ");
+    number(results as u64);
+}
+
 // A call that writes a text: its text, which stands at the front of the buffer, or its refusal.
 pub fn text(buf: &[u8], t: TextSize) {
     let n = t.size;

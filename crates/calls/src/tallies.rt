@@ -1,4 +1,5 @@
 // The calls on a tally.
+use crate::lines;
 use crate::lines::MOST_NUMBERS;
 use crate::print;
 use rules::CRITICALS;
@@ -53,7 +54,11 @@ pub fn open(t: Tally, numbers: &[u32; MOST_NUMBERS]) -> Outcome {
 
 // enter TALLY CONTAINER X
 pub fn enter(t: Tally, numbers: &[u32; MOST_NUMBERS]) -> Outcome {
-    tally::enter(t, narrow(numbers[1]), narrow(numbers[2]))
+    tally::enter(
+        t,
+        narrowed::container(numbers[1]),
+        narrowed::result(numbers[2]),
+    )
 }
 
 // weigh TALLY CONTAINER STATUS COMPONENT REMAINDER
@@ -62,12 +67,31 @@ pub fn weigh(t: Tally, numbers: &[u32; MOST_NUMBERS]) -> Outcome {
         component: weights::float(numbers[3]),
         remainder: weights::float(numbers[4]),
     };
-    tally::weigh(t, narrow(numbers[1]), narrow(numbers[2]), pans)
+    tally::weigh(t, narrowed::container(numbers[1]), narrow(numbers[2]), pans)
 }
 
 // withdraw TALLY CONTAINER
 pub fn withdraw(t: Tally, numbers: &[u32; MOST_NUMBERS]) -> Outcome {
-    tally::withdraw(t, narrow(numbers[1]))
+    tally::withdraw(t, narrowed::container(numbers[1]))
+}
+
+// list TALLY WORD WORD ..: its lines are entered. The words are those behind the name, the tally's number among them.
+pub fn list(t: Tally, words: &[u8]) -> Tally {
+    let mut list = io::buffer();
+    let start = lines::behind_first(words);
+    let n = lines::lay_list(&words[start..], &mut list);
+    let outcome = list_reader::read_list(t, &list[..n]);
+    let refusal = outcome.refusal;
+    let next = outcome.tally;
+    print::listed(refusal.number(), outcome.line, next.held);
+    next
+}
+
+// writelist TALLY: its results as a comma list, or the refusal.
+pub fn write_list(t: Tally) {
+    let mut buf = io::buffer();
+    let text = answers::printed_size(list_writer::write_list(t, &mut buf));
+    print::text(&buf, text);
 }
 
 // report TALLY: its text, or the refusal.

@@ -10,8 +10,9 @@ mod widths;
 
 use tally::Tally;
 use widths::ENTER;
+use widths::LIST;
+use widths::LIST_HEAD;
 use widths::OPEN;
-use widths::REPORT;
 use widths::TEXT_WIDTH;
 use widths::WEIGH;
 use widths::WITHDRAW;
@@ -23,9 +24,10 @@ struct Made {
     at: usize,
 }
 
-// Makes the opens, enters, weighs, withdraws and joins of a list from `from` on, as long as their second byte is `name`, and lays their
-// answers into the buffer from `at` on. So all of them are made on t, and a join joins `other` into it. A tally that was joined into
-// itself is no longer `other`, so the calls end there. One function makes them all, so that the tally is not copied from call to call.
+// Makes the opens, enters, weighs, withdraws, joins and comma lists of a list from `from` on, as long as their second byte is `name`, and
+// lays their answers into the buffer from `at` on. So all of them are made on t, and a join joins `other` into it. A tally that was
+// joined into itself is no longer `other`, so the calls end there. One function makes them all, so that the tally is not copied from
+// call to call.
 fn made_on(
     t: Tally,
     other: Tally,
@@ -56,11 +58,13 @@ fn made_on(
             t = tallies::weighed(t, rest, buf, at);
         } else if kind == WITHDRAW {
             t = tallies::withdrawn(t, numbers::two(rest, 2), buf, at);
+        } else if kind == LIST {
+            t = tallies::listed(t, &rest[LIST_HEAD..width], buf, at);
         } else {
             t = tallies::joined(t, other, buf, at);
         }
         from += width;
-        at += 1;
+        at += widths::answer_width(kind);
         if 1 < name {
             break;
         }
@@ -72,13 +76,13 @@ fn made_on(
     }
 }
 
-// What reports and writes leave: the places behind the calls in the list and behind the answers in the buffer.
+// What the calls that write a text leave: the places behind the calls in the list and behind the answers in the buffer.
 struct Told {
     from: usize,
     at: usize,
 }
 
-// Makes the reports and writes of a list from `from` on, as long as their second byte is `name`: they leave the tally as it is.
+// Makes the calls of a list that write a text from `from` on, as long as their second byte is `name`: they leave the tally as it is.
 fn told_of(t: Tally, name: u8, list: &[u8], from: usize, buf: &mut [u8], at: usize) -> Told
     requires { ⌜ (from ≤ length (now list)) × (at ≤ length (now buf)) ⌝ }
     ensures { λ r. ⌜ (from ≤ r .from) × (r .from ≤ length (now (list .entry))) × (r .at ≤ length (now (buf .entry))) ⌝ }
@@ -107,7 +111,7 @@ pub extern "C" fn gelvorin_calls(list: &[u8], buf: &mut [u8]) -> u64 {
     while from + 1 < list.len() {
         let name = list[from + 1];
         let on = widths::made_on(name);
-        if list[from] < REPORT {
+        if widths::changes(list[from]) {
             let source = widths::joined_from(name);
             let made = made_on(both[on], both[source], name, list, from, buf, at);
             if made.from == from {

@@ -5,6 +5,7 @@ ghost use lib.ListN.{length};
 use crate::numbers;
 use crate::opening;
 use crate::widths::REPORT;
+use crate::widths::WRITE_LIST;
 use rules::Pans;
 use rules::TextSize;
 use tally::Tally;
@@ -52,10 +53,31 @@ pub fn joined(t: Tally, other: Tally, buf: &mut [u8], at: usize) -> Tally {
     outcome.tally
 }
 
-// A report or, for any other kind, a sheet.
+// A number, and a line or a length in two bytes.
+fn lay_three(buf: &mut [u8], at: usize, number: u32, more: usize) {
+    if buf.len() <= at {
+        return;
+    }
+    numbers::lay(buf, at, number as usize);
+    numbers::lay(buf, at + 1, more / 256);
+    numbers::lay(buf, at + 2, more);
+}
+
+// Of a comma list: the number, and the line of its refusal.
+pub fn listed(t: Tally, list: &[u8], buf: &mut [u8], at: usize) -> Tally {
+    let outcome = list_reader::read_list(t, list);
+    let refusal = outcome.refusal;
+    lay_three(buf, at, refusal.number(), outcome.line);
+    outcome.tally
+}
+
+// A report, a comma list or, for any other kind, a sheet.
 fn text_of(t: Tally, kind: u8, lent: &mut [u8]) -> TextSize {
     if kind == REPORT {
         return answers::reported_size(report::report(t, lent));
+    }
+    if kind == WRITE_LIST {
+        return answers::printed_size(list_writer::write_list(t, lent));
     }
     answers::written_size(writer::write(t, lent))
 }
@@ -72,7 +94,5 @@ pub fn texted(t: Tally, kind: u8, buf: &mut [u8], at: usize, room: usize) {
         return;
     }
     let text = text_of(t, kind, &mut buf[at + 3..at + room]);
-    numbers::lay(buf, at, text.number as usize);
-    numbers::lay(buf, at + 1, text.size / 256);
-    numbers::lay(buf, at + 2, text.size);
+    lay_three(buf, at, text.number, text.size);
 }
