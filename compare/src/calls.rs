@@ -12,17 +12,20 @@
 //! | 5    | weigh    | container (2), status (2), the float bits of component (4) and remainder (4) |
 //! | 6    | report   | the length of the lent buffer (2) |
 //! | 7    | write    | the length of the lent buffer (2) |
+//! | 8    | list     | the length of a comma list (2), its bytes |
+//! | 9    | writelist | the length of the lent buffer (2) |
 //!
-//! Each call is answered by one byte, 0 or the refusal's number. For a report or a write two bytes
-//! follow, the text's length (0 where refused), and then the lent buffer itself, which is that part
-//! of the answers' own buffer. The list ends at its last byte, at bytes that are no whole call, or
-//! where the answers' buffer has no room for the next answer. The number of bytes answered is given.
+//! Each call is answered by one byte, 0 or the refusal's number. For a comma list two bytes follow, the
+//! line that is refused (0 where none is). For a report, a write or a writelist two bytes follow, the text's
+//! length (0 where refused), and then the lent buffer itself, which is that part of the answers' own
+//! buffer. The list ends at its last byte, at bytes that are no whole call, or where the answers' buffer
+//! has no room for the next answer. The number of bytes answered is given.
 
 use crate::card::{Card, Lot, MOST_ROWS, Row};
-use crate::refusal::Refusal;
+use crate::refusal::{Fault, Refusal};
 use crate::tally::Tally;
 use crate::weights::Weighing;
-use crate::{report, sheet};
+use crate::{comma, report, sheet};
 
 /// One call; the tallies are named by their number.
 #[derive(Clone, Debug, PartialEq, Eq)]
@@ -34,6 +37,41 @@ pub enum Call {
     Weigh { on: usize, container: u16, weighing: Weighing },
     Report { on: usize, room: u16 },
     Write { on: usize, room: u16 },
+    List { on: usize, lines: Vec<u8> },
+    WriteList { on: usize, room: u16 },
+}
+
+/// What a call answers.
+#[derive(Clone, Copy, Debug, PartialEq, Eq)]
+pub struct Answer {
+    /// 0 or the refusal's number.
+    pub number: u8,
+    /// What the two bytes behind it say: a text's length, or the line of a comma list that is refused; else 0.
+    pub behind: usize,
+}
+
+impl From<Result<(), Refusal>> for Answer {
+    fn from(answer: Result<(), Refusal>) -> Self {
+        answer.map(|()| 0).into()
+    }
+}
+
+impl From<Result<usize, Refusal>> for Answer {
+    fn from(answer: Result<usize, Refusal>) -> Self {
+        match answer {
+            Ok(length) => Self { number: 0, behind: length },
+            Err(refusal) => Self { number: refusal.number(), behind: 0 },
+        }
+    }
+}
+
+impl From<Result<(), Fault>> for Answer {
+    fn from(answer: Result<(), Fault>) -> Self {
+        match answer {
+            Ok(()) => Self { number: 0, behind: 0 },
+            Err(fault) => Self { number: fault.refusal.number(), behind: fault.line },
+        }
+    }
 }
 
 impl Call {
@@ -73,6 +111,16 @@ impl Call {
                 list.extend([7, *on as u8]);
                 list.extend(room.to_be_bytes());
             }
+            Self::List { on, lines } => {
+                let length = u16::try_from(lines.len()).expect("a call has two bytes for a list's length");
+                list.extend([8, *on as u8]);
+                list.extend(length.to_be_bytes());
+                list.extend(lines);
+            }
+            Self::WriteList { on, room } => {
+                list.extend([9, *on as u8]);
+                list.extend(room.to_be_bytes());
+            }
         }
     }
 
@@ -95,6 +143,8 @@ impl Call {
             5 => Self::Weigh { on, container: list.number()?, weighing: decode_weighing(list)? },
             6 => Self::Report { on, room: list.number()? },
             7 => Self::Write { on, room: list.number()? },
+            8 => Self::List { on, lines: list.counted()? },
+            9 => Self::WriteList { on, room: list.number()? },
             _ => return None,
         })
     }
@@ -108,30 +158,45 @@ impl Call {
             Self::Weigh { .. } => "weigh",
             Self::Report { .. } => "report",
             Self::Write { .. } => "write",
+            Self::List { .. } => "list",
+            Self::WriteList { .. } => "writelist",
         }
     }
 
     /// The length of the buffer that the call lends, where it lends one.
     pub fn room(&self) -> Option<usize> {
         match self {
-            Self::Report { room, .. } | Self::Write { room, .. } => Some((*room).into()),
+            Self::Report { room, .. } | Self::Write { room, .. } | Self::WriteList { room, .. } => {
+                Some((*room).into())
+            }
             _ => None,
         }
     }
 
-    /// Makes the call. `buf` is the buffer that it lends; the number is the text's length.
-    pub fn make(&self, tallies: &mut [Tally; 2], buf: &mut [u8]) -> Result<usize, Refusal> {
+    /// How many bytes the answer has, the lent buffer among them.
+    fn answer_width(&self) -> usize {
+        match (self, self.room()) {
+            (Self::List { .. }, _) => 3,
+            (_, Some(room)) => 3 + room,
+            (_, None) => 1,
+        }
+    }
+
+    /// Makes the call. `buf` is the buffer that it lends.
+    pub fn make(&self, tallies: &mut [Tally; 2], buf: &mut [u8]) -> Answer {
         match self {
-            Self::Open { on, lot, card } => tallies[*on].open(lot, card).map(|()| 0),
-            Self::Enter { on, container, x } => tallies[*on].enter(*container, *x).map(|()| 0),
-            Self::Withdraw { on, container } => tallies[*on].withdraw(*container).map(|()| 0),
+            Self::Open { on, lot, card } => tallies[*on].open(lot, card).into(),
+            Self::Enter { on, container, x } => tallies[*on].enter(*container, *x).into(),
+            Self::Withdraw { on, container } => tallies[*on].withdraw(*container).into(),
             Self::Join { on, other } => {
                 let other = tallies[*other].clone();
-                tallies[*on].join(&other).map(|()| 0)
+                tallies[*on].join(&other).into()
             }
-            Self::Weigh { on, container, weighing } => tallies[*on].weigh(*container, weighing).map(|()| 0),
-            Self::Report { on, .. } => report::report(&tallies[*on], buf),
-            Self::Write { on, .. } => sheet::write(&tallies[*on], buf),
+            Self::Weigh { on, container, weighing } => tallies[*on].weigh(*container, weighing).into(),
+            Self::Report { on, .. } => report::report(&tallies[*on], buf).into(),
+            Self::Write { on, .. } => sheet::write(&tallies[*on], buf).into(),
+            Self::List { on, lines } => comma::enter(&mut tallies[*on], lines).into(),
+            Self::WriteList { on, .. } => comma::write(&tallies[*on], buf).into(),
         }
     }
 }
@@ -184,24 +249,37 @@ impl Bytes<'_> {
     fn wide_number(&mut self) -> Option<u32> {
         self.take().map(u32::from_be_bytes)
     }
+
+    /// As many bytes as the number before them says.
+    fn counted(&mut self) -> Option<Vec<u8>> {
+        let length = self.number()?;
+        let (taken, rest) = self.0.split_at_checked(length.into())?;
+        self.0 = rest;
+        Some(taken.to_vec())
+    }
 }
+
+/// How a call is made: as `Call::make`, or with a fault.
+pub type Make = fn(&Call, &mut [Tally; 2], &mut [u8]) -> Answer;
 
 /// Makes the calls of a list and lays the answers into `buf`; gives the number of bytes answered.
 pub fn run(list: &[u8], buf: &mut [u8]) -> usize {
+    run_by(Call::make, list, buf)
+}
+
+/// The same with each call made in a given way.
+pub fn run_by(make: Make, list: &[u8], buf: &mut [u8]) -> usize {
     let mut tallies = [Tally::fresh(), Tally::fresh()];
     let mut list = Bytes(list);
     let mut at = 0;
     while let Some(call) = Call::decode(&mut list) {
-        let width = call.room().map_or(1, |room| 3 + room);
-        let Some(answer) = buf.get_mut(at..at + width) else { break };
-        let (head, room) = answer.split_at_mut(width.min(3));
-        let (number, length) = match call.make(&mut tallies, room) {
-            Ok(length) => (0, length),
-            Err(refusal) => (refusal.number(), 0),
-        };
-        head[0] = number;
+        let width = call.answer_width();
+        let Some(bytes) = buf.get_mut(at..at + width) else { break };
+        let (head, room) = bytes.split_at_mut(width.min(3));
+        let answer = make(&call, &mut tallies, room);
+        head[0] = answer.number;
         if let [_, high, low] = head {
-            [*high, *low] = (length as u16).to_be_bytes();
+            [*high, *low] = (answer.behind as u16).to_be_bytes();
         }
         at += width;
     }
@@ -239,10 +317,13 @@ mod tests {
             },
             Call::Report { on: 0, room: 300 },
             Call::Write { on: 1, room: 0 },
+            Call::List { on: 1, lines: vec![b'7'; 300] },
+            Call::List { on: 0, lines: Vec::new() },
+            Call::WriteList { on: 0, room: 780 },
         ];
         let mut list = Vec::new();
         calls.iter().for_each(|call| call.encode(&mut list));
-        assert_eq!(list.len(), 2 + 1_024 + 6 + 4 + 8 + 14 + 8);
+        assert_eq!(list.len(), 2 + 1_024 + 6 + 4 + 8 + 14 + 8 + 304 + 4 + 4);
         let mut bytes = Bytes(&list);
         for call in calls {
             assert_eq!(Call::decode(&mut bytes), Some(call));
@@ -266,5 +347,29 @@ mod tests {
         let mut short = [b'.'; 36];
         assert_eq!(run(&list, &mut short), 36);
         assert_eq!(short, buf[..36]);
+    }
+
+    #[test]
+    fn a_comma_list_is_answered_by_its_number_and_line() {
+        let list = |on, lines: &str| Call::List { on, lines: lines.into() };
+        let calls = [
+            Call::Open { on: 0, lot: Lot { attribute: 2, containers: 9 }, card: card() },
+            list(0, "9,70\n1,0\n"),
+            list(0, "2,5\n9,0\n"),
+            list(1, "1,1\n"),
+            list(1, ""),
+            Call::WriteList { on: 0, room: 10 },
+            Call::WriteList { on: 0, room: 8 },
+            Call::WriteList { on: 1, room: 1 },
+        ];
+        let mut bytes = Vec::new();
+        calls.iter().for_each(|call| call.encode(&mut bytes));
+        let mut buf = [b'.'; 43];
+        assert_eq!(run(&bytes, &mut buf), 41);
+        assert_eq!(&buf, b"\0\0\0\0\x08\0\x02\x06\0\x01\0\0\0\0\0\x091,0\n9,70\n.\x10\0\0........\0\0\0...");
+        // A list whose bytes break off is no whole call.
+        let mut short = Vec::new();
+        list(0, "1,0\n").encode(&mut short);
+        assert_eq!(run(&short[..7], &mut buf), 0);
     }
 }

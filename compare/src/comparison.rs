@@ -4,6 +4,7 @@ use std::collections::BTreeMap;
 use std::fmt::{self, Write as _};
 
 use crate::apart::Apart;
+use crate::generate::commas;
 use crate::generate::lists::{self, Form};
 use crate::generate::numbers;
 use crate::generate::sheets::{self, KINDS};
@@ -133,6 +134,40 @@ pub fn sheets(seed: u64, number: usize, left: &dyn Subject, right: &dyn Subject,
     found.count_reports("reports on sheets", &apart);
 }
 
+/// Compares `number` pairs of a sheet and a comma list: the list entered, one result entered and one withdrawn, by
+/// what calls the subjects have.
+pub fn on_sheets(seed: u64, number: usize, left: &dyn Subject, right: &dyn Subject, found: &mut Comparison) {
+    let mut prng = Prng::new(seed);
+    for _ in 0..number {
+        let (sheet, tally) = commas::sheet_and_tally(&mut prng);
+        let list = commas::any(&mut prng, &tally);
+        let (container, x) = (numbers::container(&mut prng, &tally), numbers::x(&mut prng));
+        let input = format!("{container} {x} {}", String::from_utf8_lossy(&list));
+        let input = [&sheet, input.as_bytes()].concat();
+        let mut compare = |what: &str, call: &dyn Fn(&dyn Subject, &mut [u8]) -> Option<i64>| {
+            if let Some(answers) = both(&mut prng, LONGEST_WRITTEN, call, left, right) {
+                found.count(&format!("sheets with {what}"), 1);
+                reach_refusal(found, what, answers.left.0);
+                answers.compare(found, what, &input);
+            }
+        };
+        compare("a list entered", &|subject, buf| subject.enter_list(&sheet, &list, buf));
+        compare("a result entered", &|subject, buf| subject.enter(&sheet, container, x, buf));
+        compare("a result withdrawn", &|subject, buf| subject.withdraw(&sheet, container, buf));
+    }
+}
+
+/// Counts the answer to a call on a sheet by its refusal's number and the file that the fault is in.
+fn reach_refusal(found: &mut Comparison, what: &str, answer: i64) {
+    let refused = answer.min(0).unsigned_abs();
+    let (number, file) = (refused & 0xFF, refused >> 8 & 0xFF);
+    found.reach(match (number, file) {
+        (0, _) => format!("{what}: accepted"),
+        (_, 1) => format!("{what}: refused for the sheet"),
+        _ => format!("{what}: refused {number}"),
+    });
+}
+
 /// Makes one call on both subjects, with a lent buffer of some length: ample, as long as the text, one
 /// byte less or more, or any.
 fn both(
@@ -148,6 +183,7 @@ fn both(
         1 => length,
         2 => length + 1,
         3 => prng.below(length + 1),
+        4 => longest,
         _ => length + prng.below(64),
     };
     Answers::of(prng, room, call, left, right)

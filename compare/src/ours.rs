@@ -28,6 +28,33 @@ unsafe extern "C" {
     fn gelvorin_rewrite(sheet: *const u8, sheet_len: usize, buf: *mut u8, buf_len: usize) -> u64;
 }
 
+#[cfg(feature = "sheets")]
+unsafe extern "C" {
+    fn gelvorin_enter(
+        sheet: *const u8,
+        sheet_len: usize,
+        container: u32,
+        x: u32,
+        buf: *mut u8,
+        buf_len: usize,
+    ) -> u64;
+    fn gelvorin_withdraw(
+        sheet: *const u8,
+        sheet_len: usize,
+        container: u32,
+        buf: *mut u8,
+        buf_len: usize,
+    ) -> u64;
+    fn gelvorin_enter_list(
+        sheet: *const u8,
+        sheet_len: usize,
+        list: *const u8,
+        list_len: usize,
+        buf: *mut u8,
+        buf_len: usize,
+    ) -> u64;
+}
+
 #[cfg(feature = "weights")]
 unsafe extern "C" {
     safe fn gelvorin_tenths(bits: u32) -> u64;
@@ -54,6 +81,32 @@ impl Subject for Ours {
     fn rewrite(&self, sheet: &[u8], buf: &mut [u8]) -> Option<i64> {
         // SAFETY: both pairs come from slices that live through the call.
         let answer = unsafe { gelvorin_rewrite(sheet.as_ptr(), sheet.len(), buf.as_mut_ptr(), buf.len()) };
+        Some(signed(answer))
+    }
+
+    #[cfg(feature = "sheets")]
+    fn enter(&self, sheet: &[u8], container: u32, x: u32, buf: &mut [u8]) -> Option<i64> {
+        let (text, room) = (sheet.as_ptr(), buf.len());
+        // SAFETY: both pairs come from slices that live through the call.
+        let answer = unsafe { gelvorin_enter(text, sheet.len(), container, x, buf.as_mut_ptr(), room) };
+        Some(signed(answer))
+    }
+
+    #[cfg(feature = "sheets")]
+    fn withdraw(&self, sheet: &[u8], container: u32, buf: &mut [u8]) -> Option<i64> {
+        let (text, room) = (sheet.as_ptr(), buf.len());
+        // SAFETY: both pairs come from slices that live through the call.
+        let answer = unsafe { gelvorin_withdraw(text, sheet.len(), container, buf.as_mut_ptr(), room) };
+        Some(signed(answer))
+    }
+
+    #[cfg(feature = "sheets")]
+    fn enter_list(&self, sheet: &[u8], list: &[u8], buf: &mut [u8]) -> Option<i64> {
+        let [text, lines] = [sheet, list].map(<[u8]>::as_ptr);
+        let room = buf.len();
+        // SAFETY: all three pairs come from slices that live through the call.
+        let answer =
+            unsafe { gelvorin_enter_list(text, sheet.len(), lines, list.len(), buf.as_mut_ptr(), room) };
         Some(signed(answer))
     }
 

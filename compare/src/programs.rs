@@ -3,11 +3,11 @@
 
 use std::fmt::Write as _;
 use std::io::{self, Write as _};
-use std::path::Path;
+use std::path::{Path, PathBuf};
 use std::process::{Command, Stdio};
 
 use crate::apart::Apart;
-use crate::calls::Call;
+use crate::calls::{Answer, Call};
 use crate::comparison::Comparison;
 use crate::generate::lists::{self, Form};
 use crate::generate::sheets::{self, KINDS};
@@ -25,7 +25,7 @@ pub fn lotreport(program: &Path, seed: u64, number: usize, found: &mut Compariso
     let mut apart = Apart::default();
     for at in 0..number {
         let sheet = sheets::sheet(&mut prng, KINDS[at % KINDS.len()]);
-        let written = run(program, &sheet)?;
+        let written = run(program, &[], &sheet)?;
         found.count("sheets by lotreport", 1);
         if let Ok(read) = sheet::read(&sheet) {
             apart.look_at(&read.tally);
@@ -45,7 +45,7 @@ pub fn calls(program: &Path, seed: u64, number: usize, found: &mut Comparison) -
     for _ in 0..number {
         let (input, expected, made) = calls_input(&mut prng, found);
         found.count("calls by the program", made);
-        let written = run(program, input.as_bytes())?;
+        let written = run(program, &[], input.as_bytes())?;
         if written != expected.as_bytes() {
             let written = String::from_utf8_lossy(&written).into_owned();
             found.differ(|| first_difference(&expected, &written));
@@ -115,9 +115,16 @@ fn words(call: &Call) -> String {
             let Weighing { status, component, remainder } = weighing;
             writeln!(line, " {} {container} {status} {component} {remainder}", on + 1)
         }
-        Call::Join { on, .. } | Call::Report { on, .. } | Call::Write { on, .. } => {
-            writeln!(line, " {}", on + 1)
+        // Each line of a comma list is a word.
+        Call::List { on, lines } => {
+            let words: String =
+                String::from_utf8_lossy(lines).lines().map(|word| format!(" {word}")).collect();
+            writeln!(line, " {}{words}", on + 1)
         }
+        Call::Join { on, .. }
+        | Call::Report { on, .. }
+        | Call::Write { on, .. }
+        | Call::WriteList { on, .. } => writeln!(line, " {}", on + 1),
     };
     result.expect("a string takes all that is written");
     line
@@ -127,22 +134,18 @@ fn words(call: &Call) -> String {
 fn written(call: &Call, tallies: &mut [Tally; 2]) -> String {
     let mut buf = [0; 4_096];
     let answer = call.make(tallies, &mut buf);
-    match (call, answer) {
-        (Call::Report { .. } | Call::Write { .. }, Ok(length)) => {
-            String::from_utf8_lossy(&buf[..length]).into_owned()
+    let Answer { number, behind } = answer;
+    match call {
+        Call::Report { .. } | Call::Write { .. } | Call::WriteList { .. } if number == 0 => {
+            String::from_utf8_lossy(&buf[..behind]).into_owned()
         }
-        (Call::Report { .. } | Call::Write { .. }, Err(refusal)) => format!("REFUSED {}\n", refusal.number()),
-        (
-            Call::Open { on, .. }
-            | Call::Enter { on, .. }
-            | Call::Withdraw { on, .. }
-            | Call::Join { on, .. }
-            | Call::Weigh { on, .. },
-            answer,
-        ) => {
-            let number = answer.map_or_else(|refusal| refusal.number(), |_| 0);
-            format!("{number} held {}\n", tallies[*on].held().len())
-        }
+        Call::Report { .. } | Call::Write { .. } | Call::WriteList { .. } => format!("REFUSED {number}\n"),
+        Call::List { on, .. } => format!("{number} {behind} held {}\n", tallies[*on].held().len()),
+        Call::Open { on, .. }
+        | Call::Enter { on, .. }
+        | Call::Withdraw { on, .. }
+        | Call::Join { on, .. }
+        | Call::Weigh { on, .. } => format!("{number} held {}\n", tallies[*on].held().len()),
     }
 }
 
@@ -154,13 +157,31 @@ fn first_difference(expected: &str, written: &str) -> String {
     }
 }
 
-/// What a program writes for an input.
-fn run(program: &Path, input: &[u8]) -> io::Result<Vec<u8>> {
-    let mut child = Command::new(program).stdin(Stdio::piped()).stdout(Stdio::piped()).spawn()?;
+/// What a program writes for its arguments and an input.
+pub fn run(program: &Path, arguments: &[PathBuf], input: &[u8]) -> io::Result<Vec<u8>> {
+    let mut command = Command::new(program);
+    let mut child = command.args(arguments).stdin(Stdio::piped()).stdout(Stdio::piped()).spawn()?;
     let mut stdin = child.stdin.take().expect("it is piped");
     std::thread::scope(|scope| {
         // A program that reads only a first part closes its input, and that is no fault.
         scope.spawn(move || drop(stdin.write_all(input)));
         child.wait_with_output().map(|output| output.stdout)
     })
+}
+
+#[cfg(test)]
+mod tests {
+    use super::*;
+
+    #[test]
+    fn a_comma_list_is_a_line_of_words() {
+        let list = |on, lines: &str| Call::List { on, lines: lines.into() };
+        assert_eq!(words(&list(0, "5,98.5\n06,1\n")), "list 1 5,98.5 06,1\n");
+        assert_eq!(words(&list(1, "")), "list 2\n");
+        assert_eq!(words(&Call::WriteList { on: 1, room: 9 }), "writelist 2\n");
+        let mut tallies = [Tally::fresh(), Tally::fresh()];
+        assert_eq!(written(&list(0, "1,5\n"), &mut tallies), "6 1 held 0\n");
+        assert_eq!(written(&list(0, ""), &mut tallies), "0 0 held 0\n");
+        assert_eq!(written(&Call::WriteList { on: 0, room: 0 }, &mut tallies), "");
+    }
 }

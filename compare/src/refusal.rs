@@ -23,6 +23,7 @@ pub enum Refusal {
     OutsideTable = 17,
     NotSteady = 18,
     BadWeight = 19,
+    BadListLine = 20,
 }
 
 impl Refusal {
@@ -31,9 +32,16 @@ impl Refusal {
     }
 }
 
-/// A sheet's refusal with the line it stands on, counted from 1.
+/// The refusal of a sheet or a list with the line it stands on, counted from 1.
 #[derive(Clone, Copy, Debug, PartialEq, Eq)]
 pub struct Fault {
     pub refusal: Refusal,
     pub line: usize,
+}
+
+impl Fault {
+    /// What lotreport and lotlist print for a sheet with it.
+    pub fn printed(self) -> String {
+        format!("REFUSED {} {}\n", self.refusal.number(), self.line)
+    }
 }

@@ -324,11 +324,10 @@ pub fn rewrite(sheet: &[u8], buf: &mut [u8]) -> Result<usize, Refusal> {
 
 /// What lotreport prints for a sheet.
 pub fn printed(sheet: &[u8]) -> String {
-    let refused = |fault: Fault| format!("REFUSED {} {}\n", fault.refusal.number(), fault.line);
     match read(sheet) {
-        Err(fault) => refused(fault),
+        Err(fault) => fault.printed(),
         Ok(Read { tally, end_line }) => {
-            report::text(&tally).unwrap_or_else(|refusal| refused(Fault { refusal, line: end_line }))
+            report::text(&tally).unwrap_or_else(|refusal| Fault { refusal, line: end_line }.printed())
         }
     }
 }

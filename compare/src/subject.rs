@@ -1,6 +1,8 @@
 //! What is compared: the calls that a host program can make. The answer is a length, a number or a
-//! verdict (1 and 0), or minus the refusal's number.
+//! verdict (1 and 0), or minus the refusal's number; for a call on a sheet that number has the file and the line
+//! of a fault in it, too (`on_sheet::Refused::code`).
 
+use crate::on_sheet::{self, Refused};
 use crate::refusal::Refusal;
 use crate::weights::{self, Weighing};
 use crate::{calls, mixing, sampling, sheet, tolerance};
@@ -14,6 +16,21 @@ pub trait Subject: Sync {
 
     /// The sheet written back; none where the subject has no such call.
     fn rewrite(&self, _sheet: &[u8], _buf: &mut [u8]) -> Option<i64> {
+        None
+    }
+
+    /// The sheet with one result entered; none where the subject has no such call.
+    fn enter(&self, _sheet: &[u8], _container: u32, _x: u32, _buf: &mut [u8]) -> Option<i64> {
+        None
+    }
+
+    /// The sheet with one result withdrawn; none where the subject has no such call.
+    fn withdraw(&self, _sheet: &[u8], _container: u32, _buf: &mut [u8]) -> Option<i64> {
+        None
+    }
+
+    /// The sheet with a comma list entered; none where the subject has no such call.
+    fn enter_list(&self, _sheet: &[u8], _list: &[u8], _buf: &mut [u8]) -> Option<i64> {
         None
     }
 
@@ -48,6 +65,18 @@ impl Subject for Independent {
 
     fn rewrite(&self, sheet: &[u8], buf: &mut [u8]) -> Option<i64> {
         Some(length(sheet::rewrite(sheet, buf)))
+    }
+
+    fn enter(&self, sheet: &[u8], container: u32, x: u32, buf: &mut [u8]) -> Option<i64> {
+        Some(sheet_length(on_sheet::enter(sheet, container, x, buf)))
+    }
+
+    fn withdraw(&self, sheet: &[u8], container: u32, buf: &mut [u8]) -> Option<i64> {
+        Some(sheet_length(on_sheet::withdraw(sheet, container, buf)))
+    }
+
+    fn enter_list(&self, sheet: &[u8], list: &[u8], buf: &mut [u8]) -> Option<i64> {
+        Some(sheet_length(on_sheet::enter_list(sheet, list, buf)))
     }
 
     fn samples(&self, containers: u32, kilograms: u32) -> i64 {
@@ -92,6 +121,10 @@ pub const OTHER: (&str, &dyn Subject) =
 
 fn length(answer: Result<usize, Refusal>) -> i64 {
     answer.map_or_else(refused, |length| length as i64)
+}
+
+fn sheet_length(answer: Result<usize, Refused>) -> i64 {
+    answer.map_or_else(|refused| -(refused.code() as i64), |length| length as i64)
 }
 
 fn verdict(answer: Result<bool, Refusal>) -> i64 {

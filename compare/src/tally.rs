@@ -63,6 +63,24 @@ impl Tally {
         Ok(())
     }
 
+    /// The same for numbers of any size, each none where 16 bits do not carry it: no lot has such a container,
+    /// and such an X is too high.
+    pub fn enter_wide(&mut self, container: Option<u16>, x: Option<u16>) -> Result<(), Refusal> {
+        let container = container.ok_or(Refusal::NoSuchContainer)?;
+        self.check_container(container)?;
+        self.enter(container, x.ok_or(Refusal::ResultTooHigh)?)
+    }
+
+    /// Makes several enters, all or none: where they end in a refusal, what is held is as before them.
+    pub fn together<E>(&mut self, enters: impl FnOnce(&mut Self) -> Result<(), E>) -> Result<(), E> {
+        let before = self.held.clone();
+        let answer = enters(self);
+        if answer.is_err() {
+            self.held = before;
+        }
+        answer
+    }
+
     /// Adds the result that a balance's weights give; answers 2 where the lot's attribute is not purity, then
     /// 6, 8, 9, 18 or 19. A fresh tally's attribute is that of purity, so that it answers 6.
     pub fn weigh(&mut self, container: u16, weighing: &Weighing) -> Result<(), Refusal> {

@@ -10,6 +10,7 @@ use std::time::Instant;
 
 use compare::calls::Call;
 use compare::card::Row;
+use compare::comma;
 use compare::generate::entry::Entry;
 use compare::generate::plan::Plan;
 use compare::generate::weighings;
@@ -42,6 +43,12 @@ fn main() {
         sheet_line(&format!("{held} results, 1 row, 1 critical value"), &plans);
     }
     println!();
+    // So have comma lists.
+    let mut commas = Prng::new(3);
+    for lines in [5, 20, 60] {
+        enter_list_line(&mut commas, lines);
+    }
+    println!();
     beside_lines(&mut prng);
     weighed_line(&mut balance);
     list_lines(&mut prng, &mut balance);
@@ -71,6 +78,27 @@ fn sheet_line(name: &str, plans: &[Plan]) {
     line(&format!("rewrite  {name}"), sheets.len(), |subject| {
         sheets.iter().map(|sheet| subject.rewrite(black_box(sheet), &mut buf)).sum()
     });
+}
+
+/// Comma lists entered on sheets that hold nothing, one after the other.
+fn enter_list_line(prng: &mut Prng, lines: usize) {
+    let pairs: Vec<_> = (0..SHEETS)
+        .map(|_| {
+            let mut plan = plain(prng, lines);
+            let list = list_of(&plan);
+            plan.results.clear();
+            (plan.sheet(), list)
+        })
+        .collect();
+    let mut buf = vec![0; LONGEST_WRITTEN];
+    line(&format!("enter_list {lines} lines on a sheet without results"), pairs.len(), |subject| {
+        pairs.iter().map(|(sheet, list)| subject.enter_list(black_box(sheet), list, &mut buf)).sum()
+    });
+}
+
+/// A plan's results as a comma list.
+fn list_of(plan: &Plan) -> Vec<u8> {
+    comma::text(&plan.tally().expect("a good plan"))
 }
 
 /// The calls beside the tally, each over a thousand pairs of numbers, so that no branch is foretold.
@@ -120,24 +148,53 @@ fn list_lines(prng: &mut Prng, balance: &mut Prng) {
     call_line("open     96 rows, 56 critical values", 20, &[], &vec![open(0, &full); 20].concat());
     for held in [5, 20, 60] {
         let plan = plain(prng, held);
-        let opened = open(0, &plan);
-        let entered = [opened.clone(), enters(0, &plan.results)].concat();
-        call_line(&format!("enter    the 1st to the {held}th"), held, &opened, &entered);
-        let mut by_weight = plan.clone();
-        by_weight.weigh(balance, 1, weighings::of_share);
-        let weighed = [opened.clone(), enters(0, &by_weight.results)].concat();
-        call_line(&format!("weigh    the 1st to the {held}th"), held, &opened, &weighed);
-        let withdrawn = plan.results.iter().map(|entry| Call::Withdraw { on: 0, container: entry.container });
-        let emptied = [entered.clone(), withdrawn.collect()].concat();
-        call_line(&format!("withdraw {held} held, down to none"), held, &entered, &emptied);
-        let other = [open(1, &plan), enters(1, &plan.results)].concat();
-        let join = [opened.clone(), vec![Call::Join { on: 0, other: 1 }]].concat();
-        let again = |calls: Vec<Call>| [other.clone(), vec![calls; 100].concat()].concat();
-        call_line(&format!("join     {held} held into none"), 100, &again(opened), &again(join));
-        let reported = [entered.clone(), vec![Call::Report { on: 0, room: 100 }; 100]].concat();
-        call_line(&format!("report   {held} held"), 100, &entered, &reported);
-        let written = [entered.clone(), vec![Call::Write { on: 0, room: 1_000 }; 100]].concat();
-        call_line(&format!("write    {held} held, 1 row, 1 critical value"), 100, &entered, &written);
+        single_lines(&plan, balance);
+        several_lines(&plan);
+        text_lines(&plan);
+    }
+}
+
+/// The calls on one result.
+fn single_lines(plan: &Plan, balance: &mut Prng) {
+    let held = plan.results.len();
+    let opened = open(0, plan);
+    let entered = [opened.clone(), enters(0, &plan.results)].concat();
+    call_line(&format!("enter    the 1st to the {held}th"), held, &opened, &entered);
+    let mut by_weight = plan.clone();
+    by_weight.weigh(balance, 1, weighings::of_share);
+    let weighed = [opened.clone(), enters(0, &by_weight.results)].concat();
+    call_line(&format!("weigh    the 1st to the {held}th"), held, &opened, &weighed);
+    let withdrawn = plan.results.iter().map(|entry| Call::Withdraw { on: 0, container: entry.container });
+    let emptied = [entered.clone(), withdrawn.collect()].concat();
+    call_line(&format!("withdraw {held} held, down to none"), held, &entered, &emptied);
+}
+
+/// The calls that add several results: each is made on a tally just opened, and so with an open as often as without.
+fn several_lines(plan: &Plan) {
+    let held = plan.results.len();
+    let other = [open(1, plan), enters(1, &plan.results)].concat();
+    let again = |call: &[Call]| {
+        let opened_and_call = [open(0, plan), call.to_vec()].concat();
+        [other.clone(), vec![opened_and_call; 100].concat()].concat()
+    };
+    let join = again(&[Call::Join { on: 0, other: 1 }]);
+    call_line(&format!("join     {held} held into none"), 100, &again(&[]), &join);
+    let list = again(&[Call::List { on: 0, lines: list_of(plan) }]);
+    call_line(&format!("list     {held} lines into none"), 100, &again(&[]), &list);
+}
+
+/// The calls that write a text.
+fn text_lines(plan: &Plan) {
+    let held = plan.results.len();
+    let entered = [open(0, plan), enters(0, &plan.results)].concat();
+    let texts = [
+        (format!("report   {held} held"), Call::Report { on: 0, room: 100 }),
+        (format!("write    {held} held, 1 row, 1 critical value"), Call::Write { on: 0, room: 1_000 }),
+        (format!("writelist {held} held"), Call::WriteList { on: 0, room: 1_000 }),
+    ];
+    for (name, call) in texts {
+        let written = [entered.clone(), vec![call; 100]].concat();
+        call_line(&name, 100, &entered, &written);
     }
 }
 

@@ -3,17 +3,20 @@
 //!
 //!     compare [SHEETS [LISTS [SEED]]]
 //!
-//! Where GELVORIN_PROGRAMS names a folder with the proved programs lotreport and calls, these are run
-//! too. Without the feature `ours` the independent implementation is held against itself, which tries
+//! Where GELVORIN_PROGRAMS names a folder with the proved programs lotreport, lotenter, lotlist and calls, these
+//! are run too. Without the feature `ours` the independent implementation is held against itself, which tries
 //! the comparison and nothing else. The last line counts the differences.
 
-use std::path::PathBuf;
+use std::path::{Path, PathBuf};
 use std::process::ExitCode;
 use std::{env, io};
 
 use compare::comparison::{self, Comparison};
-use compare::programs;
 use compare::subject::{Independent, OTHER};
+use compare::{list_programs, programs};
+
+/// How a program is compared: on a number of inputs, made from a seed.
+type Compare = fn(&Path, u64, usize, &mut Comparison) -> io::Result<()>;
 
 fn main() -> io::Result<ExitCode> {
     let mut words = env::args().skip(1).map(|word| word.parse::<u64>());
@@ -23,16 +26,21 @@ fn main() -> io::Result<ExitCode> {
     let (name, subject) = OTHER;
     let mut found = Comparison::default();
     comparison::sheets(seed, sheets, &Independent, subject, &mut found);
+    comparison::on_sheets(seed, sheets / 2, &Independent, subject, &mut found);
     comparison::beside(seed, sheets / 4, &Independent, subject, &mut found);
     comparison::lists(seed, lists, &Independent, subject, &mut found);
     if let Some(folder) = env::var_os("GELVORIN_PROGRAMS").map(PathBuf::from) {
-        let lotreport = folder.join("lotreport");
-        if lotreport.exists() {
-            programs::lotreport(&lotreport, seed + 1, sheets / 100, &mut found)?;
-        }
-        let calls = folder.join("calls");
-        if calls.exists() {
-            programs::calls(&calls, seed + 1, lists / 100, &mut found)?;
+        let programs: [(&str, Compare, usize); 4] = [
+            ("lotreport", programs::lotreport, sheets / 100),
+            ("lotenter", list_programs::lotenter, sheets / 100),
+            ("lotlist", list_programs::lotlist, sheets / 100),
+            ("calls", programs::calls, lists / 100),
+        ];
+        for (name, compare, number) in programs {
+            let program = folder.join(name);
+            if program.exists() {
+                compare(&program, seed + 1, number, &mut found)?;
+            }
         }
     }
 

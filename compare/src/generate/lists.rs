@@ -3,11 +3,12 @@
 use crate::apart::Apart;
 use crate::calls::Call;
 use crate::card::{Card, HIGHEST_X, Lot, MOST_ROWS};
+use crate::comma;
+use crate::generate::commas;
 use crate::generate::entry::Entry;
 use crate::generate::plan::Plan;
 use crate::generate::weighings;
 use crate::prng::Prng;
-use crate::refusal::Refusal;
 use crate::report;
 use crate::sheet::{self, LONGEST_WRITTEN};
 use crate::tally::{MOST_HELD, Tally};
@@ -28,8 +29,8 @@ pub struct List {
 pub enum Form {
     /// Any.
     Any,
-    /// At most one critical value, all 96 places alike, and no join of a tally with itself: what one
-    /// line of text has words for.
+    /// At most one critical value, all 96 places alike, no join of a tally with itself, and comma lists of words:
+    /// what one line of text can say.
     Text,
 }
 
@@ -62,6 +63,7 @@ pub fn list(prng: &mut Prng, form: Form) -> List {
     // At the end all of both tallies is shown.
     for on in [0, 1] {
         followed.make(Call::Write { on, room: LONGEST_WRITTEN as u16 });
+        followed.make(Call::WriteList { on, room: comma::LONGEST_WRITTEN as u16 });
         followed.make(Call::Report { on, room: 100 });
     }
     followed.list
@@ -88,7 +90,7 @@ impl Followed<'_> {
         }
         for _ in 0..self.prng.pick(&[3, 10, 30, 80, 200]) {
             let on = self.prng.below(2);
-            match self.prng.below(40) {
+            match self.prng.below(44) {
                 0 => self.open(on),
                 1 => self.open_badly(on),
                 2..=4 => self.join(on),
@@ -97,6 +99,8 @@ impl Followed<'_> {
                 14 => self.write(on),
                 15 => self.fill(on),
                 16..=23 => self.weigh(on),
+                24..=27 => self.enter_list(on),
+                28 => self.write_list(on),
                 _ => self.enter(on),
             }
         }
@@ -106,10 +110,10 @@ impl Followed<'_> {
         let room = call.room().unwrap_or(0);
         self.list.room += 3 + room;
         let answer = call.make(&mut self.tallies, &mut vec![0; room]);
-        if let (Call::Report { on, .. }, Ok(_)) = (&call, &answer) {
+        if let (Call::Report { on, .. }, 0) = (&call, answer.number) {
             self.list.apart.look_at(&self.tallies[*on]);
         }
-        self.list.answers.push((call.name(), answer.map_or_else(Refusal::number, |_| 0)));
+        self.list.answers.push((call.name(), answer.number));
         self.list.calls.push(call);
     }
 
@@ -198,6 +202,15 @@ impl Followed<'_> {
         self.make(Call::Weigh { on, container, weighing });
     }
 
+    /// Enters a comma list, or tries to.
+    fn enter_list(&mut self, on: usize) {
+        let make = if self.form == Form::Text { commas::of_words } else { commas::any };
+        let mut lines = make(self.prng, &self.tallies[on]);
+        // A call has two bytes for the length.
+        lines.truncate(u16::MAX.into());
+        self.make(Call::List { on, lines });
+    }
+
     /// Enters or weighs until a number close to 60, or to 60 for both together, is held.
     fn fill(&mut self, on: usize) {
         let other = self.tallies[1 - on].held().len();
@@ -235,6 +248,11 @@ impl Followed<'_> {
         let length = sheet::text(&self.tallies[on]).map_or(0, |text| text.len());
         let room = self.room_for(length);
         self.make(Call::Write { on, room });
+    }
+
+    fn write_list(&mut self, on: usize) {
+        let room = self.room_for(comma::text(&self.tallies[on]).len());
+        self.make(Call::WriteList { on, room });
     }
 
     fn room_for(&mut self, length: usize) -> u16 {

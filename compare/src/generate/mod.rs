@@ -1,5 +1,6 @@
-//! Sheets, lists of calls and numbers to compare, made from a seed.
+//! Sheets, comma lists, lists of calls and numbers to compare, made from a seed.
 
+pub mod commas;
 pub mod entry;
 pub mod lists;
 pub mod numbers;

@@ -1,7 +1,9 @@
 //! Numbers for the calls beside the tally.
 
+use crate::card::HIGHEST_X;
 use crate::generate::weighings::{self, EDGES};
 use crate::prng::Prng;
+use crate::tally::Tally;
 use crate::weights::Weighing;
 
 /// Numbers at the ends of the types and of the tables.
@@ -68,6 +70,31 @@ pub fn weighings(prng: &mut Prng, number: usize) -> Vec<Weighing> {
         all.extend([weighings::any(prng), weighings::accepted(prng, x), weighings::of_share(prng, x)]);
     }
     all
+}
+
+/// A container of a lot or none, held or free; or one that 16 bits do not carry, but would be such a one by them.
+pub fn container(prng: &mut Prng, tally: &Tally) -> u32 {
+    let last = tally.lot().containers;
+    let held: Vec<u16> = tally.held().iter().map(|held| held.container).collect();
+    let some =
+        if held.is_empty() || prng.once_in(2) { prng.within(1..=last.max(1)) } else { prng.pick(&held) };
+    wide(prng, some, &[0, last, last.saturating_add(1), 65_535])
+}
+
+/// X within its limit, at it or above it, or one that 16 bits do not carry.
+pub fn x(prng: &mut Prng) -> u32 {
+    let some = prng.within(0..=HIGHEST_X);
+    wide(prng, some, &[0, HIGHEST_X, HIGHEST_X + 1, 65_535])
+}
+
+/// A number, one of the limits, a number of more than 16 bits whose last ones it is, or an end of the type.
+fn wide(prng: &mut Prng, some: u16, limits: &[u16]) -> u32 {
+    match prng.below(8) {
+        0 => prng.pick(limits).into(),
+        1 => (prng.draw() as u32) << 16 | u32::from(some),
+        2 => prng.pick(&[65_536, 65_537, u32::MAX - 1, u32::MAX]),
+        _ => some.into(),
+    }
 }
 
 fn every(firsts: std::ops::Range<u32>, seconds: std::ops::Range<u32>) -> Vec<(u32, u32)> {
