@@ -12,6 +12,7 @@ use Rattle.rules.specs.Cards.{seedsGood, headGood, openNumber}
 use Rattle.rules.specs.Attributes.{attributeOf, isVoid}
 use Rattle.rules.specs.Contents.{Contents, largest}
 use Rattle.rules.specs.Figures.{figuresOf, ratio, reportedH, exceeds}
+use Rattle.rules.specs.declared.Attribute.{Attribute}
 use Rattle.rules.specs.declared.Fraction.{Fraction}
 use Rattle.rules.specs.Spread.{HeadWithin}
 use Rattle.rules.specs.declared.Head.{Head}
@@ -52,24 +53,26 @@ pub record Bounded (highest : ℕ) (q : Fraction) (g : ℕ) : Type 0 where
   -- exact H does not exceed it
   pub never : exceeds q g (100 * highest) ≡ false
   -- nor does the reported decimal, in hundredths
-  pub reported : reportedH q g ≤ 100 * highest
+  pub reported : reportedH q g .nearest ≤ 100 * highest
 
 reported-le : (highest : ℕ) (q : Fraction) (g : ℕ) → 0 < q .under → q .over ≤ highest * q .under → Bounded highest q g
-reported-le highest q g pos h = record { exact = h; never = never; reported = by (decLe (reportedH q g) (100 * highest)) }
+reported-le highest q g pos h = record { exact = h; never = never; reported = by (decLe (reportedH q g .nearest) (100 * highest)) }
   where
     never : exceeds q g (100 * highest) ≡ false
     never = unfold exceeds in le-ltb ((100 * highest + 10 * g) * q .under) (100 * q .over) (omega arith)
 
-    by : Dec (reportedH q g ≤ 100 * highest) → reportedH q g ≤ 100 * highest
+    by : Dec (reportedH q g .nearest ≤ 100 * highest) → reportedH q g .nearest ≤ 100 * highest
     by (yes p) = p
     by (no p) = absurd (true≢false (sym (above-over q g pos (100 * highest) (omega arith)) ∙ never))
+
+pub bounds-by : (a : Attribute) (h : Head) (n : ℕ) (f : Contents) → HeadWithin h → largest n f ≤ highestX → leastReported ≤ figuresOf n f .count
+    → isVoid a (figuresOf n f .count) (figuresOf n f .sum) ≡ false → Bounded (highestH a) (ratio a h (figuresOf n f)) (h .offset)
+bounds-by a h n f w high many valid =
+    reported-le (highestH a) (ratio a h (figuresOf n f)) (h .offset)
+    (under-positive a h (figuresOf n f) valid (omega arith) (omega (arith, w .factor)))
+    (ratio-le a h (figuresOf n f) (spread-of highestX n f high) many w)
 
 pub bounds : (l : Lot) (c : Card) (n : ℕ) (f : Contents) → openNumber l c ≡ 0 → largest n f ≤ highestX → leastReported ≤ figuresOf n f .count
     → isVoid (attributeOf (l .attribute)) (figuresOf n f .count) (figuresOf n f .sum) ≡ false
     → Bounded (highestH (attributeOf (l .attribute))) (ratio (attributeOf (l .attribute)) (c .head) (figuresOf n f)) (c .head .offset)
-bounds l c n f opens high many valid =
-    let h = opened-head l c opens in
-    let a = attributeOf (l .attribute) in
-    reported-le (highestH a) (ratio a (c .head) (figuresOf n f)) (c .head .offset)
-    (under-positive a (c .head) (figuresOf n f) valid (omega arith) (omega (arith, h .factor)))
-    (ratio-le a (c .head) (figuresOf n f) (spread-of highestX n f high) many h)
+bounds l c n f opens high many valid = bounds-by (attributeOf (l .attribute)) (c .head) n f (opened-head l c opens) high many valid

@@ -84,18 +84,18 @@ module _ (a : Attribute) (f : Figures) (bound : ℕ) (pos : 1 ≤ f .count) wher
   abbrev scale : ℕ
   scale = meanScale a (f .count)
 
-  served : meanOf a f ≤ bound * scale → 2 * (scale * f .sum) < 2 * (scale * (bound * f .count)) + f .count
+  served : meanOf a f .nearest ≤ bound * scale → 2 * (scale * f .sum) < 2 * (scale * (bound * f .count)) + f .count
   unfolding meanOf
   served h = omega (arith, high (scale * f .sum) (f .count) pos, mul-le-mul-right (f .count) h)
 
-  serves : 2 * (scale * f .sum) < 2 * (scale * (bound * f .count)) + f .count → meanOf a f ≤ bound * scale
+  serves : 2 * (scale * f .sum) < 2 * (scale * (bound * f .count)) + f .count → meanOf a f .nearest ≤ bound * scale
   unfolding meanOf
-  serves h = by (decLe (meanOf a f) (bound * scale))
+  serves h = by (decLe (meanOf a f .nearest) (bound * scale))
     where
-      by : Dec (meanOf a f ≤ bound * scale) → meanOf a f ≤ bound * scale
+      by : Dec (meanOf a f .nearest ≤ bound * scale) → meanOf a f .nearest ≤ bound * scale
       by (yes p) = p
       by (no p) =
-          let k : bound * scale + 1 ≤ meanOf a f = omega arith in
+          let k : bound * scale + 1 ≤ meanOf a f .nearest = omega arith in
           absurd (omega (arith, low (scale * f .sum) (f .count) pos, mul-le-mul-right (f .count) k))
 
   -- the mean by its distance from the bound
@@ -104,13 +104,13 @@ module _ (a : Attribute) (f : Figures) (bound : ℕ) (pos : 1 ≤ f .count) wher
       let e : f .sum ≡ bound * f .count + (f .sum - bound * f .count) = omega arith in
       omega (arith, ap (λ (x : ℕ). scale * x) e)
 
-  exact-serves : f .sum ≤ bound * f .count → meanOf a f ≤ bound * scale
+  exact-serves : f .sum ≤ bound * f .count → meanOf a f .nearest ≤ bound * scale
   exact-serves h = serves (omega (arith, mul-le-mul-left scale h))
 
-  just-below : meanOf a f ≤ bound * scale → bound * f .count < f .sum → JustBelow a f bound
+  just-below : meanOf a f .nearest ≤ bound * scale → bound * f .count < f .sum → JustBelow a f bound
   just-below h k = record { below = k; near = omega (arith, served h, from-bound (omega arith)) }
 
-  just-below-serves : JustBelow a f bound → meanOf a f ≤ bound * scale
+  just-below-serves : JustBelow a f bound → meanOf a f .nearest ≤ bound * scale
   just-below-serves j = serves (omega (arith, j .near, from-bound (omega (arith, j .below))))
 
 -- ---- rows by the printed mean and by the exact one

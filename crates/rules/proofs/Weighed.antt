@@ -63,7 +63,7 @@ weighedTable =
     -- the sheet of document 01, four of its results weighed: 98 g and 2 g, 97 g and 3 g, 99 g and 1 g
     ∷ prints
     "01000028\n020A0A03E8\n0305009B\n040509264800C8\n0700030042C4000040000000\n0700080042C2000040400000\n05000C26AC\n0700110042C4000040000000\n0700280042C4000040000000\n0605\n"
-    "N 5\nMEAN 98.00\nH 1.55 1.55 over\nR 2.00 2.00 kept\nLOT heterogeneous\n"
+    "N 5\nMEAN 98.00=\nH 1.55+ 1.55 over\nR 2.00 2.00 kept\nLOT heterogeneous\n"
     -- weighed results count in 06, and alone too
     ∷ prints "01000028\n020A0A03E8\n07000300447A000000000000\n0600\n" "REFUSED 14 4\n"
     ∷ prints "01000028\n020A0A03E8\n07000300447A000000000000\n0601\n" "REFUSED 15 4\n"

@@ -6,7 +6,7 @@ use lib.Dec.{eqb, ltb}
 use lib.Ieee.{Float, binary32, toBits}
 use Rattle.rules.specs.Choice.{pick}
 use Rattle.rules.specs.Limits.{highestX, mostGrams, tenthsPerGram}
-use Rattle.rules.specs.Rounding.{nearestOf}
+use Rattle.rules.specs.Rounding.{roundedOf}
 use Rattle.rules.specs.Floats.{negative, finite, exactOf}
 use Rattle.rules.specs.Numbers.{shareAnswer}
 use Rattle.rules.specs.declared.Answered.{Answered}
@@ -28,9 +28,9 @@ tooHeavy q = ltb (mostGrams * q .under) (q .over)
 unfoldable pub badWeight : ℕ → Bool
 badWeight b = negative b || (not (finite b) || tooHeavy (exactOf b))
 
--- the nearest whole tenth of a milligram to a number of grams, half up
+-- the nearest whole tenth of a milligram to a number of grams, half up; its side is not used
 abbrev pub nearestTenths : Fraction → ℕ
-nearestTenths q = nearestOf (tenthsPerGram * q .over) (q .under)
+nearestTenths q = roundedOf (tenthsPerGram * q .over) (q .under) .nearest
 
 unfoldable pub tenthsOf : ℕ → Weight
 tenthsOf b = pick (badWeight b) Bad (Tenths (nearestTenths (exactOf b)))
@@ -38,7 +38,7 @@ tenthsOf b = pick (badWeight b) Bad (Tenths (nearestTenths (exactOf b)))
 -- ---- both weights, rounded
 -- the share of c in c + r, half up; there is none where both are zero
 unfoldable pub ratioOf : ℕ → ℕ → Share
-ratioOf c r = pick (eqb (c + r) 0) BadWeight (Hundredths (nearestOf (highestX * c) (c + r)))
+ratioOf c r = pick (eqb (c + r) 0) BadWeight (Hundredths (roundedOf (highestX * c) (c + r) .nearest))
 
 abbrev pub shareBy : Weight → Weight → Share
 shareBy (Tenths c) (Tenths r) = ratioOf c r

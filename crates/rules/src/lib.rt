@@ -213,19 +213,36 @@ pub enum Verdict {
     Undecided,
 }
 
-// H or R as its line has it, with its decimal places.
+// On which side of a printed number the exact one is. Unrounded: the number was not rounded, and has no mark.
+pub enum Side {
+    Unrounded,
+    Equal,
+    Larger,
+    Smaller,
+}
+
+// What the rounding step gives: the nearest whole number, the larger of two equally near, and on which side of it the exact one is.
+pub struct Rounded {
+    pub nearest: u64,
+    pub side: Side,
+}
+
+// H or R as its line has it, with its decimal places and its side.
 pub struct Value {
     pub places: u8,
     pub value: u64,
+    pub side: Side,
     pub limit: Limit,
     pub verdict: Verdict,
 }
 
-// What the five lines of a report say: N, the mean with its decimal places, H and R, which a void lot has not, and the lot's verdict.
+// What the five lines of a report say: N, the mean with its decimal places and its side, H and R, which a void lot has not, and the
+// lot's verdict.
 pub struct Findings {
     pub count: u16,
     pub places: u8,
     pub mean: u64,
+    pub side: Side,
     pub void: bool,
     pub h: Value,
     pub r: Value,
