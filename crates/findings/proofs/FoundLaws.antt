@@ -11,6 +11,7 @@ use Rattle.rules.specs.declared.Attribute.{Attribute}
 use Rattle.rules.specs.declared.Card.{Card}
 use Rattle.rules.specs.declared.Figures.{Figures}
 use Rattle.rules.specs.declared.Fraction.{Fraction}
+use Rattle.rules.specs.declared.Rounded.{Rounded}
 use Rattle.rules.specs.declared.Limit.{Limit}
 use Rattle.rules.specs.declared.Value.{Value}
 use Rattle.rules.specs.declared.Verdict.{Verdict}
@@ -18,11 +19,11 @@ use Rattle.rules.specs.declared.Verdict.the-variants.{Undecided}
 use Rattle.rules.specs.declared.Findings.{Findings}
 use Rattle.findings.specs.Values.{hAgainst, rAgainst}
 
-abbrev findings : Figures → ℕ → ℕ → Bool → Value → Value → Verdict → Findings
+abbrev findings : Figures → ℕ → Rounded → Bool → Value → Value → Verdict → Findings
 findings f places mean void h r lot =
-    record { count = f .count; places = places; mean = mean; void = void; h = h; r = r; lot = lot }
+    record { count = f .count; places = places; mean = mean .nearest; side = mean .side; void = void; h = h; r = r; lot = lot }
 
-module _ (a : Attribute) (c : Card) (f : Figures) (places mean : ℕ) (b : Bool) (h r : Value)
+module _ (a : Attribute) (c : Card) (f : Figures) (places : ℕ) (mean : Rounded) (b : Bool) (h r : Value)
     (p : places ≡ meanPlaces a (f .count)) (m : mean ≡ meanOf a f) (v : b ≡ isVoid a (f .count) (f .sum)) where
   pub void-found : b ≡ true → h ≡ noValue → r ≡ noValue → findings f places mean true h r Undecided ≡ findingsOf a c f
   unfolding findingsOf
@@ -31,7 +32,7 @@ module _ (a : Attribute) (c : Card) (f : Figures) (places mean : ℕ) (b : Bool)
   -- a card has no more rows than it has places
   pub values-found : (q : Fraction) (critical tolerated : Limit) (scale : ℕ) (lot : Verdict) → b ≡ false → c .rows ≤ mostRows
       → q ≡ ratio a (c .head) f → critical ≡ criticalFor c (f .count) → h ≡ hAgainst q (c .head .offset) critical
-      → scale ≡ meanScale a (f .count) → tolerated ≡ toleratedUpto c (f .count) (record { over = mean; under = scale }) (min (c .rows) mostRows)
+      → scale ≡ meanScale a (f .count) → tolerated ≡ toleratedUpto c (f .count) (record { over = mean .nearest; under = scale }) (min (c .rows) mostRows)
       → r ≡ rAgainst a f tolerated → lot ≡ together (h .verdict) (r .verdict)
       → findings f places mean false h r lot ≡ findingsOf a c f
   unfolding findingsOf

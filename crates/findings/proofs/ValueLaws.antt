@@ -7,7 +7,7 @@ use mathlib.Core.Path.{_≡_, refl, ap}
 use mathlib.Core.Bool.{Bool, true, false}
 use Rattle.rules.specs.Limits.{highestX, mostFactor, mostSeeds}
 use Rattle.rules.specs.Attributes.{isVoid, meanScale}
-use Rattle.rules.specs.Figures.{deviation, meanOf, ratio, reportedH, exceeds, verdictBy, verdictOn}
+use Rattle.rules.specs.Figures.{deviation, meanOf, ratio, lessWhole, reportedH, exceeds, verdictBy, verdictOn}
 use Rattle.rules.specs.Spread.{HeadWithin}
 use Rattle.rules.specs.declared.Attribute.{Attribute}
 use Rattle.rules.specs.declared.Attribute.the-variants.{Purity, Germination, Count}
@@ -94,14 +94,14 @@ mean-workable scale s n h k a b =
     workable-of scale s n (record { scale = h; positive = k; under = omega arith; whole = omega (arith, div-le-self s n) })
 
 -- the mean is at most the highest result, and has no more than two places beside those of X
-pub mean-most : (a : Attribute) (f : Figures) → Served f → meanScale a (f .count) ≤ 100 → meanOf a f ≤ 100 * highestX
+pub mean-most : (a : Attribute) (f : Figures) → Served f → meanScale a (f .count) ≤ 100 → meanOf a f .nearest ≤ 100 * highestX
 unfolding meanOf
-mean-most a f m h = by (decLe (meanOf a f) (100 * highestX))
+mean-most a f m h = by (decLe (meanOf a f .nearest) (100 * highestX))
   where
-    by : Dec (meanOf a f ≤ 100 * highestX) → meanOf a f ≤ 100 * highestX
+    by : Dec (meanOf a f .nearest ≤ 100 * highestX) → meanOf a f .nearest ≤ 100 * highestX
     by (yes p) = p
     by (no p) =
-        let k : 100 * highestX + 1 ≤ meanOf a f = omega arith in
+        let k : 100 * highestX + 1 ≤ meanOf a f .nearest = omega arith in
         absurd
         (omega
         (arith, low (meanScale a (f .count) * f .sum) (f .count) (omega (arith, m .enough)), mul-le-mul-right (f .count) k, mul-le-mul h (m .spread .sum-high)))
@@ -114,7 +114,7 @@ module _ (q : Fraction) (d : Division) (offset : ℕ) (w : Workable 100 (q .over
   workable-is : workable 100 (q .over) (q .under) ≡ true
   workable-is = workable-of 100 (q .over) (q .under) w
 
-  pub h-value : d .nearest - 10 * offset ≡ reportedH q offset
+  pub h-value : lessWhole (d .rounded) (10 * offset) ≡ reportedH q offset
   unfolding reportedH
   h-value = rw (k, workable-is) refl
 

@@ -1,7 +1,7 @@
 // The findings of a report: what its five lines say.
 ghost use mathlib.Core.Path.{_≡_};
-ghost use Prim.Native.Nat.{_-_, _≤_};
-ghost use Rattle.rules.specs.Figures.{figuresOf, meanOf};
+ghost use Prim.Native.Nat.{_≤_};
+ghost use Rattle.rules.specs.Figures.{figuresOf, meanOf, lessWhole};
 ghost use Rattle.rules.specs.Report.{noValue, findingsOf};
 ghost use Rattle.rounding.specs.Dividing.{Workable};
 ghost use Rattle.findings.specs.Values.{hAgainst, rAgainst};
@@ -13,6 +13,8 @@ use rules::Findings;
 use rules::Fraction;
 use rules::Limit;
 use rules::MOST_HELD;
+use rules::Rounded;
+use rules::Side;
 use rules::Value;
 use rules::Verdict;
 
@@ -25,20 +27,30 @@ pub enum Found {
     NotReportable,
 }
 
-// The mean in units of its last printed place, half up.
-fn mean(a: Attribute, f: Figures) -> u64
+// The mean in units of its last printed place, half up, with its side.
+fn mean(a: Attribute, f: Figures) -> Rounded
     requires { ⌜ 1 ≤ f .count ⌝ }
     ensures { λ r. ⌜ r ≡ meanOf a f ⌝ }
 {
     let d = rounding::divide(a.mean_scale(f.count) as u64, f.sum as u64, f.count as u64);
-    d.nearest
+    d.rounded
 }
 
-// a less b, and 0 where b is larger.
-fn less(a: u64, b: u64) -> u64
-    ensures { λ r. ⌜ r ≡ a - b ⌝ }
+// A rounded number less a whole one. Where that is below zero, it is 0 and the exact number smaller.
+fn less(r: Rounded, whole: u64) -> Rounded
+    ensures { λ x. ⌜ x ≡ lessWhole r whole ⌝ }
 {
-    if a < b { 0 } else { a - b }
+    let side = r.side;
+    if r.nearest < whole {
+        return Rounded {
+            nearest: 0,
+            side: Side::Smaller,
+        };
+    }
+    Rounded {
+        nearest: r.nearest - whole,
+        side: side,
+    }
 }
 
 // H from V/W, G and the critical value.
@@ -47,9 +59,12 @@ fn h_value(q: Fraction, offset: u16, critical: Limit) -> Value
     ensures { λ r. ⌜ r ≡ hAgainst q offset critical ⌝ }
 {
     let d = rounding::divide(100, q.over, q.under);
+    let h = less(d.rounded, 10 * offset as u64);
+    let side = h.side;
     Value {
         places: 2,
-        value: less(d.nearest, 10 * offset as u64),
+        value: h.nearest,
+        side: side,
         limit: critical,
         verdict: verdicts::verdict_of_h(d, offset, critical),
     }
@@ -64,6 +79,7 @@ fn r_value(a: Attribute, f: Figures, tolerated: Limit) -> Value
     Value {
         places: a.places() as u8,
         value: range as u64,
+        side: Side::Unrounded,
         limit: tolerated,
         verdict: verdicts::verdict_of_r(range, tolerated),
     }
@@ -76,6 +92,7 @@ fn no_value() -> Value
     Value {
         places: 0,
         value: 0,
+        side: Side::Unrounded,
         limit: Limit::Absent,
         verdict: Verdict::Undecided,
     }
@@ -91,12 +108,14 @@ fn of_figures(a: Attribute, c: Card, f: Figures) -> Findings
     let mean = mean(a, f);
     // The row goes by the mean that is printed, printed / scale; void goes by the exact one, f.sum / f.count.
     let scale = a.mean_scale(f.count);
-    let printed = mean as u32;
+    let printed = mean.nearest as u32;
+    let side = mean.side;
     if a.is_void(f.count, f.sum) {
         return Findings {
             count: f.count,
             places: places,
-            mean: mean,
+            mean: mean.nearest,
+            side: side,
             void: true,
             h: no_value(),
             r: no_value(),
@@ -112,7 +131,8 @@ fn of_figures(a: Attribute, c: Card, f: Figures) -> Findings
     Findings {
         count: f.count,
         places: places,
-        mean: mean,
+        mean: mean.nearest,
+        side: side,
         void: false,
         h: h,
         r: r,

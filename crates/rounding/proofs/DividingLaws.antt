@@ -7,9 +7,12 @@ use native.Mathlib.Decide.{decLe}
 use native.Mathlib.Omega.{arith}
 use lib.Dec.{eqb, leb, ltb}
 use borrow.Author.Tests.{leb-true, ltb-true, lt-ltb, le-ltb, le-leb, eq-eqb, ne-eqb}
-use Rattle.rules.proofs.RoundingLaws.{Split, split-of, split-is, split-scaled, up-is, down-is, whole-over, whole-kept, rest-is}
+use Rattle.rules.specs.Rounding.{roundedOf}
+use Rattle.rules.specs.declared.Rounded.{Rounded}
+use Rattle.rules.specs.declared.Side.the-variants.{Equal, Larger, Smaller}
+use Rattle.rules.proofs.RoundingLaws.{Split, split-of, split-is, split-scaled, up-is, down-is, up-side, down-side, no-rest-side, whole-over, whole-kept, rest-is}
 use Rattle.rounding.specs.declared.Division.{Division}
-use Rattle.rounding.specs.Dividing.{workable, Workable, divisionOf, isAbove}
+use Rattle.rounding.specs.Dividing.{workable, Workable, Parted, divisionOf, isAbove}
 
 both-true : (p q : Bool) → (p && q) ≡ true → (p ≡ true) × (q ≡ true)
 both-true true q e = (refl, e)
@@ -40,14 +43,28 @@ above-is m a b t e = rw e (by (split-of (m * a) b (workable-is m a b e .positive
     by s (no p) (yes q) = rw (le-ltb t (m * a / b) (omega arith), eq-eqb t (m * a / b) (omega arith)) (rest-is _ _ _ _ s t q (omega arith))
     by s (no p) (no q) = rw (le-ltb t (m * a / b) (omega arith), ne-eqb t (m * a / b) (λ z. omega arith)) (sym (whole-kept _ _ _ _ s t (omega arith)))
 
+-- ---- the rounding step on a whole number and a rest
+module _ (w r b : ℕ) (p : Parted w r b) where
+  parts : Split (w * b + r) b w r
+  parts = record { sum = refl; small = p .less }
+
+  pub rounded-up : b ≤ 2 * r → _≡_ {A = Rounded} (record { nearest = w + 1; side = Smaller }) (roundedOf (w * b + r) b)
+  rounded-up h = rw (up-side _ _ _ _ parts h, up-is _ _ _ _ parts h) refl
+
+  pub rounded-down : 2 * r < b → 0 < r → _≡_ {A = Rounded} (record { nearest = w; side = Larger }) (roundedOf (w * b + r) b)
+  rounded-down h k = rw (down-side _ _ _ _ parts h k, down-is _ _ _ _ parts h) refl
+
+  pub rounded-equal : 2 * r < b → r ≤ 0 → _≡_ {A = Rounded} (record { nearest = w; side = Equal }) (roundedOf (w * b + r) b)
+  rounded-equal h k = rw (no-rest-side _ _ _ _ parts h k, down-is _ _ _ _ parts h) refl
+
 -- ---- the answers of the code
 module _ (m a b w r : ℕ) (e : workable m a b ≡ true) (p : (w ≡ m * a / b) × (r ≡ m * a % b)) where
   here : Split (m * a) b w r
   here = rw (p .0, p .1) (split-of (m * a) b (workable-is m a b e .positive))
 
   -- the rest is less than the divisor, and the whole can have one more
-  pub small : (r < 2 ^ 56) × (w < 2 ^ 60)
-  small =
+  pub parted : Parted w r b
+  parted =
       let k = workable-is m a b e in
       let s = here in
       let q : m * a / b < 2 ^ 60 =
@@ -58,10 +75,7 @@ module _ (m a b w r : ℕ) (e : workable m a b ≡ true) (p : (w ≡ m * a / b) 
         mul-le-mul (k .scale) (le-of-lt (mod-lt a (k .positive))),
         mul-le-mul (k .scale) (mul-le-mul-right b (le-of-lt (k .whole))),
       )) in
-      (omega (arith, s .small, k .under), omega (arith, p .0, q))
+      record { less = s .small; under = k .under; high = omega (arith, p .0, q) }
 
-  pub up-division : b ≤ 2 * r → _≡_ {A = Division} (record { whole = w; rest = r; nearest = w + 1 }) (divisionOf m a b)
-  up-division h = rw (e, up-is _ _ _ _ here h) (cc)
-
-  pub down-division : 2 * r < b → _≡_ {A = Division} (record { whole = w; rest = r; nearest = w }) (divisionOf m a b)
-  down-division h = rw (e, down-is _ _ _ _ here h) (cc)
+  pub divided : (d : Rounded) → d ≡ roundedOf (w * b + r) b → _≡_ {A = Division} (record { whole = w; rest = r; rounded = d }) (divisionOf m a b)
+  divided d q = rw (q, here .sum, e, p .0, p .1) refl

@@ -1,14 +1,17 @@
-// Division, rounded half up, and whether a quotient is above a whole number.
+// The rounding step: a division, rounded half up, with the side of the rounded number on which the exact one is; and whether a quotient
+// is above a whole number.
 ghost use mathlib.Core.Path.{_≡_};
-ghost use Prim.Native.Nat.{_*_, _/_, _%_};
-ghost use Rattle.rounding.specs.Dividing.{workable as Dividing·workable, Workable, divisionOf, isAbove};
+ghost use Prim.Native.Nat.{_+_, _*_, _/_, _%_};
+ghost use Rattle.rules.specs.Rounding.{roundedOf};
+ghost use Rattle.rounding.specs.Dividing.{workable as Dividing·workable, Workable, Parted, divisionOf, isAbove};
+use rules::Rounded;
+use rules::Side;
 
-// A quotient: how often the divisor goes into the dividend, what is left, and the whole number nearest to the exact quotient, the
-// larger of two equally near.
+// A quotient: how often the divisor goes into the dividend, what is left, and the exact quotient rounded.
 pub struct Division {
     pub whole: u64,
     pub rest: u64,
-    pub nearest: u64,
+    pub rounded: Rounded,
 }
 
 // Whether scale * over / under can be worked out in 64 bits.
@@ -42,29 +45,50 @@ fn split(scale: u64, over: u64, under: u64) -> Parts
     }
 }
 
+// A whole number and a rest of which under make one more: the nearest whole number, and on which side of it they are. They are half and
+// more of one short of the next number, less than half above the number itself, or the number itself.
+fn round(whole: u64, rest: u64, under: u64) -> Rounded
+    requires { ⌜ Parted whole rest under ⌝ }
+    ensures { λ r. ⌜ r ≡ roundedOf (whole * under + rest) under ⌝ }
+{
+    if under <= 2 * rest {
+        return Rounded {
+            nearest: whole + 1,
+            side: Side::Smaller,
+        };
+    }
+    if 0 < rest {
+        return Rounded {
+            nearest: whole,
+            side: Side::Larger,
+        };
+    }
+    Rounded {
+        nearest: whole,
+        side: Side::Equal,
+    }
+}
+
 // scale * over / under, where no number on the way can wrap; zeros where one could.
 pub fn divide(scale: u64, over: u64, under: u64) -> Division
     ensures { λ r. ⌜ r ≡ divisionOf scale over under ⌝ }
 {
     if workable(scale, over, under) {
         let p = split(scale, over, under);
-        if under <= 2 * p.rest {
-            return Division {
-                whole: p.whole,
-                rest: p.rest,
-                nearest: p.whole + 1,
-            };
-        }
+        let rounded = round(p.whole, p.rest, under);
         return Division {
             whole: p.whole,
             rest: p.rest,
-            nearest: p.whole,
+            rounded: rounded,
         };
     }
     Division {
         whole: 0,
         rest: 0,
-        nearest: 0,
+        rounded: Rounded {
+            nearest: 0,
+            side: Side::Unrounded,
+        },
     }
 }
 

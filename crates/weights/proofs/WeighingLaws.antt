@@ -21,11 +21,11 @@ use Rattle.rounding.specs.Dividing.{divisionOf}
 use Rattle.rounding.proofs.DividingLaws.{workable-of}
 
 -- ---- a quotient that can be worked out
-divided : (n d : ℕ) → 1 ≤ d → d < 2 ^ 56 → n / d < 2 ^ 50 → divisionOf 1 n d .nearest ≡ nearestOf n d
+divided : (n d : ℕ) → 1 ≤ d → d < 2 ^ 56 → n / d < 2 ^ 50 → divisionOf 1 n d .rounded .nearest ≡ nearestOf n d
 divided n d p u w = rw (workable-of 1 n d (record { scale = omega arith; positive = p; under = u; whole = w })) (ap (λ (x : ℕ). nearestOf x d) (one-mul n))
 
 pub weight-divided : (b : ℕ) → 939524096 ≤ b → b ≤ 1148846080
-    → divisionOf 1 (10000 * (8388608 + b % 8388608)) (1 * 2 ^ (150 - b / 8388608) % 2 ^ 64) .nearest ≡ nearestTenths (exactOf b)
+    → divisionOf 1 (10000 * (8388608 + b % 8388608)) (1 * 2 ^ (150 - b / 8388608) % 2 ^ 64) .rounded .nearest ≡ nearestTenths (exactOf b)
 weight-divided b h g =
     let n = 10000 * (8388608 + b % 8388608) in
     let s = 150 - b / 8388608 in
@@ -36,7 +36,7 @@ weight-divided b h g =
     (divided n (2 ^ s) (pow-pos s) (lt-of-le-of-lt (pow-mono k) (lit< tt)) (lt-of-le-of-lt (div-le-self n (2 ^ s)) small)
     ∙ sym (tenths-some b h g))
 
-pub share-divided : (c r : ℕ) → c < 2 ^ 32 → r < 2 ^ 32 → 1 ≤ c + r → divisionOf 1 (10000 * c) (c + r) .nearest ≡ nearestOf (10000 * c) (c + r)
+pub share-divided : (c r : ℕ) → c < 2 ^ 32 → r < 2 ^ 32 → 1 ≤ c + r → divisionOf 1 (10000 * c) (c + r) .rounded .nearest ≡ nearestOf (10000 * c) (c + r)
 share-divided c r h k p = divided (10000 * c) (c + r) p (omega arith) (lt-of-le-of-lt (div-le-self (10000 * c) (c + r)) (omega arith))
 
 -- ---- what is not a number

@@ -46,7 +46,8 @@ fn tenths_of_bits(bits: u32) -> Weight
         TENTHS_PER_GRAM * significand as u64,
         1 << (150 - exponent),
     );
-    Weight::Tenths(d.nearest as u32)
+    let tenths = d.rounded;
+    Weight::Tenths(tenths.nearest as u32)
 }
 
 // A weight in tenths of a milligram, half up.
@@ -68,7 +69,8 @@ fn ratio(c: u32, r: u32) -> Share
         return Share::BadWeight;
     }
     let d = rounding::divide(1, HIGHEST_X as u64 * c as u64, both);
-    Share::Hundredths(d.nearest as u16)
+    let hundredths = d.rounded;
+    Share::Hundredths(hundredths.nearest as u16)
 }
 
 // X of two steady weights.

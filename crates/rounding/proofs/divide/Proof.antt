@@ -1,6 +1,6 @@
+-- `rounding::divide` meets its contract. Assumes nothing.
 use mathlib.Core.Path.{_∙_, sym}
-use native.Mathlib.Omega.{arith}
-use Rattle.rounding.proofs.DividingLaws.{workable-is, small, up-division, down-division}
+use Rattle.rounding.proofs.DividingLaws.{workable-is, parted, divided}
 use borrow.Author.Needs.{needs}
 use Rattle.rounding.proofs.divide.Statement.{statement}
 use Rattle.rounding.proofs.divide.Tie as tie
@@ -8,28 +8,18 @@ use Rattle.rounding.proofs.divide.Tie as tie
 split-requires : tie.Need-split-requires
 split-requires c κs = workable-is _ _ _ (sym (c .before .workable .ensures) ∙ c .if1 .taken)
 
-mul-if2 : tie.Need-mul-if2
-mul-if2 c =
-    let e = sym (c .before .before .before .workable .ensures) ∙ c .before .before .if1 .taken in
-    omega (arith, small _ _ _ _ _ e (c .before .split .ensures))
-
-add-t8 : tie.Need-add-t8
-add-t8 c =
-    let e = sym (c .before .before .before .before .before .workable .ensures) ∙ c .before .before .before .before .if1 .taken in
-    omega (arith, small _ _ _ _ _ e (c .before .before .before .split .ensures))
+round-requires : tie.Need-round-requires
+round-requires c κs =
+    let e = sym (c .before .before .workable .ensures) ∙ c .before .if1 .taken in
+    parted _ _ _ _ _ e (c .split .ensures)
 
 returns : tie.Need-returns
 returns c =
-    let e = sym (c .before .before .before .before .before .workable .ensures) ∙ c .before .before .before .before .if1 .taken in
-    up-division _ _ _ _ _ e (c .before .before .before .split .ensures) (c .before .if2 .taken)
+    let e = sym (c .before .before .before .workable .ensures) ∙ c .before .before .if1 .taken in
+    divided _ _ _ _ _ e (c .before .split .ensures) _ (c .round .ensures)
 
 returns-2 : tie.Need-returns-2
-returns-2 c =
-    let e = sym (c .before .before .before .before .workable .ensures) ∙ c .before .before .before .if1 .taken in
-    down-division _ _ _ _ _ e (c .before .before .split .ensures) (c .if2 .left)
-
-returns-3 : tie.Need-returns-3
-returns-3 c = rw (sym (c .before .workable .ensures) ∙ c .if1 .left)
+returns-2 c = rw (sym (c .before .workable .ensures) ∙ c .if1 .left)
 
 pub divide-spec : {M : Type 1} → statement M
-divide-spec = tie.close (tie.spec (λ c κs. search needs) split-requires mul-if2 add-t8 returns returns-2 returns-3)
+divide-spec = tie.close (tie.spec (λ c κs. search needs) split-requires round-requires returns returns-2)

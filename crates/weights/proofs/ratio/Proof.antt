@@ -12,17 +12,17 @@ use borrow.Author.Needs.{needs}
 use Rattle.weights.proofs.ratio.Statement.{statement}
 use Rattle.weights.proofs.ratio.Tie as tie
 
-the-nearest : (c : tie.After-struct-known) → let a = c .before .before .before .args in c .before .divide .result .nearest ≡ nearestOf (highestX * a .c) (a .c + a .r)
+the-nearest : (c : tie.After-struct-known) → let a = c .before .before .before .before .args in c .before .before .divide .result .rounded .nearest ≡ nearestOf (highestX * a .c) (a .c + a .r)
 the-nearest c =
-    let a = c .before .before .before .args in
-    ap (λ (d : Division). d .nearest) (c .before .divide .ensures) ∙ share-divided (a .c) (a .r) (omega arith) (omega arith) (omega arith)
+    let a = c .before .before .before .before .args in
+    ap (λ (d : Division). d .rounded .nearest) (c .before .before .divide .ensures) ∙ share-divided (a .c) (a .r) (omega arith) (omega arith) (omega arith)
 
-cast-x : tie.Need-cast-t9
-cast-x c = let a = c .before .before .before .args in omega (arith, the-nearest c, ratio-most (a .c) (a .r) (omega arith))
+cast-x : tie.Need-cast-t10
+cast-x c = let a = c .before .before .before .before .args in omega (arith, the-nearest c, ratio-most (a .c) (a .r) (omega arith))
 
 returns-2 : tie.Need-returns-2
 returns-2 c =
-    let a = c .before .before .before .args in ap Hundredths (the-nearest c) ∙ sym (ratio-some (a .c) (a .r) (omega arith))
+    let a = c .before .before .before .before .args in ap Hundredths (the-nearest c) ∙ sym (ratio-some (a .c) (a .r) (omega arith))
 
 pub ratio-spec : {M : Type 1} → statement M
 ratio-spec =
