@@ -60,6 +60,9 @@ unfolding largest
 largest-in-order m vs zero h = omega arith
 largest-in-order m vs (suc n) h = omega (arith, largest-in-order m vs n (λ i g. h i (omega arith)), h n (omega arith))
 
+pub low-results : (t : Tally) → Sound t → walked t .largest ≤ highestX
+low-results t s = largest-in-order highestX (t .results) (t .held) (s .low)
+
 pub sound-reportable : (t : Tally) → Sound t → leastReported ≤ t .held → reportable (t .card) (walked t) ≡ true
 sound-reportable t s h =
     let c = t .card in
@@ -70,7 +73,7 @@ sound-reportable t s h =
       count-in-order vs n,
       le-leb n mostHeld (s .small),
       le-leb leastReported n h,
-      le-leb (largest n (inOrder vs)) highestX (largest-in-order highestX vs n (s .low)),
+      le-leb (largest n (inOrder vs)) highestX (low-results t s),
       le-leb leastFactor (c .head .factor) (k .factor),
       le-leb (c .head .factor) mostFactor (k .factor-high),
       le-leb (c .head .seeds) mostSeeds (k .seeds),

@@ -7,7 +7,7 @@ use Rattle.rules.specs.declared.Findings.{Findings}
 
 pub parts-are : (s : Findings)
     → findingsText s
-    ≡ (countLine (s .count) ++ meanLine (s .places) (s .mean))
+    ≡ (countLine (s .count) ++ meanLine (s .places) (s .mean) (s .side))
     ++ (valueLine (text "H ") (s .void) (s .h) ++ valueLine (text "R ") (s .void) (s .r) ++ lotVerdictLine (s .void) (s .lot))
 unfolding findingsText
 parts-are s = simp append-assoc

@@ -3,11 +3,12 @@ ghost use mathlib.Core.Path.{_≡_};
 ghost use mathlib.Core.List.{_++_};
 ghost use Rattle.rules.specs.Numbers.{reportedAnswer};
 ghost use Rattle.rules.specs.Text.{byte as Text·byte, text, pointed, laidIn};
-ghost use Rattle.rules.specs.Report.{countLine, meanLine, verdictWord, limitText, valueLine, lotWord, lotVerdictLine, findingsText};
+ghost use Rattle.rules.specs.Report.{countLine, markText, meanLine, verdictWord, limitText, valueLine, lotWord, lotVerdictLine, findingsText};
 ghost use Rattle.decimal.specs.Laying.{LaysAt, LaysLine};
 use rules::Findings;
 use rules::Limit;
 use rules::Reported;
+use rules::Side;
 use rules::Value;
 use rules::Verdict;
 
@@ -20,6 +21,18 @@ fn byte(buf: &mut [u8], at: usize, x: u8) -> usize
     }
     buf[at] = x;
     at + 1
+}
+
+// The mark of a rounded number, from at on.
+fn mark(buf: &mut [u8], at: usize, side: Side) -> usize
+    ensures { λ r. ⌜ LaysAt (markText side) at (now (buf .entry)) (now (buf .exit)) r ⌝ }
+{
+    match side {
+        Side::Unrounded => decimal::bytes(buf, at, b""),
+        Side::Equal => decimal::bytes(buf, at, b"="),
+        Side::Larger => decimal::bytes(buf, at, b"+"),
+        Side::Smaller => decimal::bytes(buf, at, b"-"),
+    }
 }
 
 // A limit with its places, or the word none, from at on.
@@ -54,16 +67,17 @@ fn lot_word(buf: &mut [u8], at: usize, v: Verdict) -> usize
     }
 }
 
-// N 5 and MEAN 98.00: a name, and a number with its places.
-fn number_line(buf: &mut [u8], name: &[u8], places: u8, n: u64) -> usize
-    ensures { λ r. ⌜ LaysLine (now (name .entry) ++ pointed places n ++ text "\n") (now (buf .entry)) (now (buf .exit)) r ⌝ }
+// N 5 and MEAN 98.00=: a name, and a number with its places and its mark.
+fn number_line(buf: &mut [u8], name: &[u8], places: u8, n: u64, side: Side) -> usize
+    ensures { λ r. ⌜ LaysLine (now (name .entry) ++ pointed places n ++ markText side ++ text "\n") (now (buf .entry)) (now (buf .exit)) r ⌝ }
 {
     let a = decimal::bytes(buf, 0, name);
     let b = decimal::pointed(buf, a, places, n);
-    byte(buf, b, b'\n')
+    let c = mark(buf, b, side);
+    byte(buf, c, b'\n')
 }
 
-// H 1.55 1.55 over, or H void; R likewise.
+// H 1.55+ 1.55 over, or H void; R likewise, without a mark.
 fn value_line(buf: &mut [u8], name: &[u8], void: bool, v: Value) -> usize
     ensures { λ r. ⌜ LaysLine (valueLine (now (name .entry)) void v) (now (buf .entry)) (now (buf .exit)) r ⌝ }
 {
@@ -71,14 +85,16 @@ fn value_line(buf: &mut [u8], name: &[u8], void: bool, v: Value) -> usize
     if void {
         return decimal::bytes(buf, a, b"void\n");
     }
+    let side = v.side;
     let limit = v.limit;
     let verdict = v.verdict;
     let b = decimal::pointed(buf, a, v.places, v.value);
-    let c = byte(buf, b, b' ');
-    let d = limit_text(buf, c, v.places, limit);
-    let e = byte(buf, d, b' ');
-    let f = verdict_word(buf, e, verdict);
-    byte(buf, f, b'\n')
+    let c = mark(buf, b, side);
+    let d = byte(buf, c, b' ');
+    let e = limit_text(buf, d, v.places, limit);
+    let f = byte(buf, e, b' ');
+    let g = verdict_word(buf, f, verdict);
+    byte(buf, g, b'\n')
 }
 
 // LOT heterogeneous
@@ -95,10 +111,11 @@ fn lot_line(buf: &mut [u8], void: bool, v: Verdict) -> usize
 
 // N and the mean.
 fn count_and_mean(buf: &mut [u8], s: Findings) -> usize
-    ensures { λ r. ⌜ LaysLine (countLine (s .count) ++ meanLine (s .places) (s .mean)) (now (buf .entry)) (now (buf .exit)) r ⌝ }
+    ensures { λ r. ⌜ LaysLine (countLine (s .count) ++ meanLine (s .places) (s .mean) (s .side)) (now (buf .entry)) (now (buf .exit)) r ⌝ }
 {
-    let a = number_line(buf, b"N ", 0, s.count as u64);
-    a + number_line(&mut buf[a..], b"MEAN ", s.places, s.mean)
+    let side = s.side;
+    let a = number_line(buf, b"N ", 0, s.count as u64, Side::Unrounded);
+    a + number_line(&mut buf[a..], b"MEAN ", s.places, s.mean, side)
 }
 
 // H and R.

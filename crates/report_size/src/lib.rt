@@ -4,9 +4,10 @@ ghost use mathlib.Core.List.{[]};
 ghost use Prim.Native.Nat.{_≤_};
 ghost use lib.ListN.{length};
 ghost use Rattle.rules.specs.Text.{pointed};
-ghost use Rattle.rules.specs.Report.{limitText, valueLine, lotVerdictLine, findingsText};
+ghost use Rattle.rules.specs.Report.{markText, limitText, valueLine, lotVerdictLine, findingsText};
 use rules::Findings;
 use rules::Limit;
+use rules::Side;
 use rules::Value;
 use rules::Verdict;
 
@@ -14,6 +15,18 @@ fn number_size(places: u8, n: u64) -> usize
     ensures { λ r. ⌜ (r ≡ length (pointed places n)) × (r ≤ 300) ⌝ }
 {
     decimal::pointed_width(places, n)
+}
+
+// The mark of a rounded number is one byte.
+fn mark_size(side: Side) -> usize
+    ensures { λ r. ⌜ (r ≡ length (markText side)) × (r ≤ 1) ⌝ }
+{
+    match side {
+        Side::Unrounded => 0,
+        Side::Equal => 1,
+        Side::Larger => 1,
+        Side::Smaller => 1,
+    }
 }
 
 fn limit_size(places: u8, l: Limit) -> usize
@@ -32,8 +45,9 @@ fn value_size(void: bool, v: Value) -> usize
     if void {
         return 5;
     }
+    let side = v.side;
     let limit = v.limit;
-    number_size(v.places, v.value) + limit_size(v.places, limit) + 7
+    number_size(v.places, v.value) + mark_size(side) + limit_size(v.places, limit) + 7
 }
 
 // The line of the lot.
@@ -57,8 +71,9 @@ pub fn size(s: Findings) -> usize
     let h = s.h;
     let r = s.r;
     let lot = s.lot;
+    let side = s.side;
     let count = number_size(0, s.count as u64) + 3;
-    let mean = number_size(s.places, s.mean) + 6;
+    let mean = number_size(s.places, s.mean) + mark_size(side) + 6;
     let values = value_size(s.void, h) + value_size(s.void, r) + 4;
     count + mean + values + lot_size(s.void, lot)
 }

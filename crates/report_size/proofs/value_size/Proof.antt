@@ -12,7 +12,10 @@ unfolding valueLine
 returns c = rw (c .if1 .taken) (refl, omega arith)
 
 returns-2 : tie.Need-returns-2
-returns-2 c = rw (c .before .before .if1 .left) (rw (c .before .number-size .ensures .0, c .limit-size .ensures .0) (value-length _), omega arith)
+returns-2 c =
+    let mark = c .before in
+    rw (mark .before .before .if1 .left)
+    (rw (mark .before .number-size .ensures .0, mark .mark-size .ensures .0, c .limit-size .ensures .0) (value-length _), omega arith)
 
 pub value-size-spec : {M : Type 1} → statement M
-value-size-spec = tie.close (tie.spec returns (λ c κs. search needs) (λ c κs. search needs) (λ c. search needs) (λ c. search needs) returns-2)
+value-size-spec = tie.close (tie.spec returns (λ c κs. search needs) (λ c κs. search needs) (λ c. search needs) (λ c κs. search needs) (λ c. search needs) (λ c. search needs) returns-2)
