@@ -13,10 +13,10 @@ use Rattle.rules.specs.Weights.{badWeight, tenthsOf, ratioOf, shareOf, weighedO
 use Rattle.rules.specs.Ledger.{Ledger, Judged, containers, judged, enterNumberBy, entered, weighNumberBy}
 use Rattle.rules.specs.Text.{byte, decimals, decimal, lastDigits, pointed}
 use Rattle.rules.specs.Cards.{rowsGood, criticalsGood}
-use Rattle.rules.specs.Rounding.{nearestOf}
+use Rattle.rules.specs.Rounding.{nearestOf, sideOf}
 use Rattle.rules.specs.Attributes.{isVoid, meanScale}
 use Rattle.rules.specs.Figures.{meanOf, ratio, reportedH, exceeds, toleratedUpto}
-use Rattle.rules.specs.Report.{findingsOf, countLine, meanLine, verdictWord, limitText, valueLine, lotWord, lotVerdictLine, findingsText, reportText}
+use Rattle.rules.specs.Report.{findingsOf, countLine, markText, meanLine, verdictWord, limitText, valueLine, lotWord, lotVerdictLine, findingsText, reportText}
 use Rattle.rules.specs.Fields.{allDigits, valueOf, numberBehind, number, fieldOf}
 use Rattle.rules.specs.Frames.{lotFrame, cardFrame, criticalFrame, rangeFrame, resultFrame, endFrame, balanceFrame, kindFrame, frameOf}
 use Rattle.rules.specs.Stages.{isEnded}
@@ -104,5 +104,5 @@ reporting = record { fault = refusedLine; result = report }
 
 -- with every definition on the way from the results to the printed bytes
 unfoldable pub quickReport : Bool → List ℕ → Evaluated
-unfolding quickly report gathered figuresOver refusedLine findingsText findingsOf countLine meanLine valueLine lotVerdictLine lotWord limitText verdictWord pointed decimal decimals lastDigits meanOf meanScale isVoid ratio reportedH exceeds toleratedUpto nearestOf
+unfolding quickly report gathered figuresOver refusedLine findingsText findingsOf countLine markText meanLine valueLine lotVerdictLine lotWord limitText verdictWord pointed decimal decimals lastDigits meanOf meanScale isVoid ratio reportedH exceeds toleratedUpto nearestOf sideOf
 quickReport whole bytes = quickly reporting whole bytes

@@ -3,36 +3,20 @@ use Prim.Native.Nat.{ℕ, _≤_}
 use native.Mathlib.Omega.{arith}
 use native.Mathlib.Decide.{decLe}
 use mathlib.Core.Path.{_≡_, refl, ap, _∙_}
-use mathlib.Core.Bool.{Bool, true, false}
 use mathlib.Core.List.{List}
-use lib.Dec.{eqb}
 use lib.ListN.{take}
 use borrow.Author.Tests.{lt-ltb, le-ltb}
 use denote.Ref.{now}
-use Rattle.rules.specs.Choice.{pick}
 use Rattle.rules.specs.Limits.{leastReported}
-use Rattle.rules.specs.Contents.{Contents}
-use Rattle.rules.specs.Ledger.{Ledger, held, withContents, enterNumber}
+use Rattle.rules.specs.Ledger.{held}
 use Rattle.rules.specs.Report.{reportOf}
 use Rattle.rules.specs.Reading.{SheetOutcome, accepted, refused, readOf}
 use Rattle.rules.specs.Printing.{printed, printedFor}
-use Rattle.rules.specs.declared.Lot.{Lot}
-use Rattle.rules.specs.declared.Card.{Card}
-use Rattle.rules.proofs.Bounds.{opened-head}
-use Rattle.reading_theorems.specs.Spelling.{Entry, Made, opens, enters, entriesOf, sheetLot, sheetCard}
 use Rattle.reading_theorems.proofs.Spelt.{spelled}
 use Rattle.history.specs.EverySheet.{Prints, faulty, few, judged, EverySheet}
 use Rattle.history.proofs.Texts.{laid-text}
+use Rattle.history.proofs.Reached.{made-reached}
 use Rattle.history.proofs.Printed.{lines}
-
--- an open that is accepted has a card with an F, and an enter leaves the card as it was
-made-factor : (l : Lot) (c : Card) (es : List Entry) (g : Ledger) → Made l c es g → 1 ≤ g .card .head .factor
-made-factor l c es g (opens e) = rw e (omega (arith, opened-head l c e .factor))
-made-factor l c es g (enters {g = h} k x m e) = by (eqb (enterNumber h k x) 0) _ (made-factor l c _ h m)
-  where
-    by : (b : Bool) (f : Contents) → 1 ≤ h .card .head .factor → 1 ≤ pick b (withContents h f) h .card .head .factor
-    by true f i = i
-    by false f i = i
 
 module _ (sheet text : List ℕ) (p : text ≡ printedFor sheet) where
   is : (o : SheetOutcome) → readOf sheet ≡ o → text ≡ printed o
@@ -47,7 +31,7 @@ module _ (sheet text : List ℕ) (p : text ≡ printedFor sheet) where
       by (yes h) =
           let t : text ≡ reportOf g = is (accepted g n) q ∙ rw (le-ltb (held g) leastReported h) refl in
           let s = spelled sheet g n q in
-          judged g n q s h t (rw t (lines g h (made-factor (sheetLot sheet) (sheetCard sheet) (entriesOf sheet) g s)))
+          judged g n q s h t (rw t (lines g h (made-reached s)))
       by (no h) = few g n q (omega arith) (is (accepted g n) q ∙ rw (lt-ltb (held g) leastReported (omega arith)) refl)
 
 pub every-sheet : EverySheet

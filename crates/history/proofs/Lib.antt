@@ -1,7 +1,10 @@
 pub mod Balance
 pub mod Sheets
 pub mod Agreement
-pub mod EndlessLaws
+pub mod OccursLaws
+pub mod FigureLaws
+pub mod Conclusions
+pub mod Reached
 pub mod Texts
 pub mod Printed
 pub mod Reporting

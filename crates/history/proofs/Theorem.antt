@@ -1,21 +1,15 @@
 -- The claims about whole lists of calls. Assumes nothing.
-use Prim.Native.Nat.{ℕ, _≤_}
-use native.Mathlib.Omega.{arith}
-use native.Mathlib.Decide.{decLe}
+use Prim.Native.Nat.{ℕ}
 use mathlib.Core.Path.{_≡_, sym, ap, ap₂, _∙_}
 use mathlib.Core.List.{List}
 use denote.Ref.{now}
-use Rattle.rules.specs.Limits.{leastReported}
-use Rattle.rules.specs.Contents.{Contents, total, size}
 use Rattle.rules.specs.Report.{reportOn}
 use Rattle.rules.specs.Writing.{writeOn}
 use Rattle.rules.specs.ListReading.{listOn}
 use Rattle.rules.specs.ListWriting.{writeListOn}
 use Rattle.rules.specs.Ledger.{Ledger, held, openOn, enterOn, weighOn, withdrawOn, joinOn}
-use Rattle.rules.proofs.Bounds.{opened-head}
 use Rattle.tally.specs.declared.Tally.{Tally}
 use Rattle.tally.specs.View.{view}
-use Rattle.tally.specs.Calls.{Sound}
 use Rattle.tally.proofs.Steps.{size-is}
 use Rattle.history.specs.Calls.{Calls, ledger, Answer}
 use Rattle.history.specs.Run.{Run}
@@ -23,6 +17,7 @@ use Rattle.history.specs.Whole.{Ends, Whole}
 use Rattle.history.specs.Alike.{OrderIsFree}
 use Rattle.history.proofs.Balance.{balanced}
 use Rattle.history.proofs.Agreement.{agrees}
+use Rattle.history.proofs.Reached.{sound-reached}
 use Rattle.history.proofs.Printed.{lines}
 use Rattle.history.proofs.Reporting.{same-report, same-sheet, same-list, enough, text-is}
 
@@ -36,18 +31,6 @@ ends cs ns t r =
       number = sym (size-is t (i .sound)) ∙ ap held (i .same);
       sound = i .sound;
     }
-
--- where something is held there is a lot, so the card was accepted by an open and has an F
-nothing : (n : ℕ) (f : Contents) → n ≡ 0 → size n f ≡ 0
-unfolding total
-nothing n f e = rw e
-
-pub has-factor : (t : Tally) → Sound t → leastReported ≤ held (view t) → 1 ≤ t .card .head .factor
-has-factor t s h = go (decLe 1 (t .lot .containers))
-  where
-    go : Dec (1 ≤ t .lot .containers) → 1 ≤ t .card .head .factor
-    go (yes p) = omega (arith, opened-head (t .lot) (t .card) (s .good p) .factor)
-    go (no p) = absurd (omega (arith, nothing (t .lot .containers) (view t .contents) (omega arith)))
 
 pub whole : Whole
 whole =
@@ -63,7 +46,7 @@ whole =
           let i = agrees p in
           let h = x .right (i .sound) in
           let many = enough (view t) (now b) n (now a) h in
-          rw (text-is (view t) (now b) n (now a) h, ← i .same) (lines (view t) many (has-factor t (i .sound) many));
+          rw (text-is (view t) (now b) n (now a) h, ← i .same) (lines (view t) many (sound-reached t (i .sound) many));
     }
 
 pub order-is-free : OrderIsFree

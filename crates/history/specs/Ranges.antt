@@ -1,22 +1,20 @@
 -- The row for R on what is printed: the tolerated range on the line of R is that of the first row in sheet order with N within its two
 -- bounds and a mean bound of at least the mean that the MEAN line shows. On the text of every report, and on that of every sheet.
-use Prim.Native.Nat.{ℕ, _*_, _≤_, _<_}
+use Prim.Native.Nat.{ℕ, _≤_, _<_}
 use mathlib.Core.Path.{_≡_}
 use mathlib.Core.List.{List, [], _∷_, _++_}
 use lib.ListN.{getD, take}
 use base.Fml.{Lft}
 use denote.Ref.{RefT, now}
 use Rattle.rules.specs.Limits.{leastReported}
-use Rattle.rules.specs.Rounding.{Nearest}
 use Rattle.rules.specs.Text.{text, pointed}
-use Rattle.rules.specs.Attributes.{attributeOf, placesOfX, meanPlaces, meanScale}
+use Rattle.rules.specs.Attributes.{placesOfX, meanScale}
 use Rattle.rules.specs.Figures.{figures, rangeOf}
 use Rattle.rules.specs.Rows.{Serves, FirstRow}
 use Rattle.rules.specs.Report.{limitText}
 use Rattle.rules.specs.Lines.{ended, linesOf}
 use Rattle.rules.specs.Ledger.{Ledger, held}
 use Rattle.rules.specs.Reading.{accepted, readOf}
-use Rattle.rules.specs.declared.Attribute.{Attribute}
 use Rattle.rules.specs.declared.Fraction.{Fraction}
 use Rattle.rules.specs.declared.Limit.{Limit}
 use Rattle.rules.specs.declared.Limit.the-variants.{Absent, At}
@@ -26,10 +24,7 @@ use Rattle.tally.specs.declared.Tally.{Tally}
 use Rattle.history.specs.Calls.{Calls, ledger, Answer}
 use Rattle.history.specs.Run.{Run}
 use Rattle.history.specs.Steps.{ReportStep, JudgeStep}
-use Rattle.history.specs.Verdict.{MeanIsBeyond}
-
-abbrev pub attribute : Ledger → Attribute
-attribute g = attributeOf (g .lot .attribute)
+use Rattle.history.specs.Verdict.{attribute, MeanShown, MeanIsBeyond}
 
 -- a mean that a ledger's MEAN line shows, given in units of its last place: in units of X
 abbrev pub asShown : Ledger → ℕ → Fraction
@@ -56,13 +51,10 @@ pub record RangeLines (g : Ledger) (report : List ℕ) : Type 0 where
   pub r : List ℕ
   pub lot : List ℕ
   pub five : linesOf report ≡ ended count ∷ ended mean ∷ ended h ∷ ended r ∷ ended lot ∷ []
-  -- the mean shown, in units of its last place: the nearest to S / N, the larger of two equally near
-  pub shown : ℕ
-  pub reads : mean ≡ text "MEAN " ++ pointed (meanPlaces (attribute g) (held g)) shown
-  pub nearest : Nearest (meanScale (attribute g) (held g) * figures g .sum) (held g) shown
-  pub over : (MeanIsBeyond g → ⊥) → (k : ℕ) → FirstRow (g .card) (held g) (asShown g shown) k → tolerated g k < range g → r ≡ rangeLine g (At (tolerated g k)) (text "over")
-  pub kept : (MeanIsBeyond g → ⊥) → (k : ℕ) → FirstRow (g .card) (held g) (asShown g shown) k → range g ≤ tolerated g k → r ≡ rangeLine g (At (tolerated g k)) (text "kept")
-  pub without : (MeanIsBeyond g → ⊥) → ((k : ℕ) → k < g .card .rows → Serves (g .card) (held g) (asShown g shown) k → ⊥) → r ≡ rangeLine g Absent (text "open")
+  pub shown : MeanShown g mean
+  pub over : (MeanIsBeyond g → ⊥) → (k : ℕ) → FirstRow (g .card) (held g) (asShown g (shown .value)) k → tolerated g k < range g → r ≡ rangeLine g (At (tolerated g k)) (text "over")
+  pub kept : (MeanIsBeyond g → ⊥) → (k : ℕ) → FirstRow (g .card) (held g) (asShown g (shown .value)) k → range g ≤ tolerated g k → r ≡ rangeLine g (At (tolerated g k)) (text "kept")
+  pub without : (MeanIsBeyond g → ⊥) → ((k : ℕ) → k < g .card .rows → Serves (g .card) (held g) (asShown g (shown .value)) k → ⊥) → r ≡ rangeLine g Absent (text "open")
 
 pub record EveryRange : Type 0 where
   -- the report of every tally that a list of calls ends with

@@ -37,7 +37,7 @@ module _ (g : Ledger) (f : Contents) (few : containers g ≤ widest) (w : Writab
       ap (lineOn here) (line-says a (suc n) x (omega arith) (omega arith))
       ∙ (enter-good here (suc n) x (omega arith) h low (upto-above f n (suc n) (omega arith)) room
       ∙ ap (λ (q : Contents). acceptedAs (withContents g q)) (upto-more f n (holds x) e)) in
-      ap (λ (l : List Line). enterLines g l here m) (written-first a (suc n) x rest (omega arith) (omega arith))
+      ap (λ (l : List Line). enterLines g l here m) (written-first (placesIn g) (suc n) x rest)
       ∙ (lines-go g _ (linesOf rest) here m (ap (λ (j : Judged). j .number) step)
       ∙ ap (λ (j : Judged). enterLines g (linesOf rest) (j .ledger) (m + 1)) step)
 

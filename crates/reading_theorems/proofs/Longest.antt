@@ -11,7 +11,7 @@ use Rattle.rules.specs.Text.{text}
 use Rattle.rules.specs.Attributes.{attributeOf, isVoid, placesOfX, placesOfMean, meanPlaces}
 use Rattle.rules.specs.Figures.{figures, verdictH, verdictR, together}
 use Rattle.rules.specs.Ledger.{held}
-use Rattle.rules.specs.Report.{valueH, valueR, noValue, foundWith, findingsOf, countLine, meanLine, verdictWord, limitText, valueLine, lotWord, lotVerdictLine, findingsText, reportOf}
+use Rattle.rules.specs.Report.{valueH, valueR, noValue, foundWith, findingsOf, countLine, markText, meanLine, verdictWord, limitText, valueLine, lotWord, lotVerdictLine, findingsText, reportOf}
 use Rattle.rules.specs.Reading.{SheetOutcome, accepted, refused, readOf}
 use Rattle.rules.specs.Printing.{refusedLine, printed, printedFor}
 use Rattle.rules.specs.declared.Attribute.{Attribute}
@@ -21,6 +21,8 @@ use Rattle.rules.specs.declared.Figures.{Figures}
 use Rattle.rules.specs.declared.Findings.{Findings}
 use Rattle.rules.specs.declared.Limit.{Limit}
 use Rattle.rules.specs.declared.Limit.the-variants.{Absent, At}
+use Rattle.rules.specs.declared.Side.{Side}
+use Rattle.rules.specs.declared.Side.the-variants.{Unrounded, Equal, Larger, Smaller}
 use Rattle.rules.specs.declared.Value.{Value}
 use Rattle.rules.specs.declared.Verdict.{Verdict}
 use Rattle.rules.specs.declared.Verdict.the-variants.{Kept, Over, Undecided}
@@ -39,9 +41,16 @@ count-most : (n : ℕ) → length (countLine n) ≤ 23
 unfolding countLine
 count-most n = simp length-append (omega (arith, length-decimal n))
 
-mean-most : (k n : ℕ) → k ≤ 3 → length (meanLine k n) ≤ 30
+mark-most : (s : Side) → length (markText s) ≤ 1
+unfolding markText
+mark-most Unrounded = omega arith
+mark-most Equal = omega arith
+mark-most Larger = omega arith
+mark-most Smaller = omega arith
+
+mean-most : (k n : ℕ) (s : Side) → k ≤ 3 → length (meanLine k n s) ≤ 31
 unfolding meanLine
-mean-most k n h = simp length-append (omega (arith, length-pointed-le k n))
+mean-most k n s h = simp length-append (omega (arith, length-pointed-le k n, mark-most s))
 
 limit-most : (k : ℕ) (l : Limit) → k ≤ 2 → length (limitText k l) ≤ 23
 unfolding limitText
@@ -54,11 +63,11 @@ verdict-most Kept = omega arith
 verdict-most Over = omega arith
 verdict-most Undecided = omega arith
 
-value-most : (name : List ℕ) (void : Bool) (v : Value) → length name ≤ 2 → v .places ≤ 2 → length (valueLine name void v) ≤ 55
+value-most : (name : List ℕ) (void : Bool) (v : Value) → length name ≤ 2 → v .places ≤ 2 → length (valueLine name void v) ≤ 56
 unfolding valueLine
 value-most name void v h k =
-    pick-most void _ _ 55 (simp length-append (omega arith))
-    (simp length-append (omega (arith, length-pointed-le (v .places) (v .value), limit-most (v .places) (v .limit) k, verdict-most (v .verdict))))
+    pick-most void _ _ 56 (simp length-append (omega arith))
+    (simp length-append (omega (arith, length-pointed-le (v .places) (v .value), mark-most (v .side), limit-most (v .places) (v .limit) k, verdict-most (v .verdict))))
 
 lot-word-most : (v : Verdict) → length (lotWord v) ≤ 13
 unfolding lotWord
@@ -107,7 +116,7 @@ lines-most s few =
     (omega (
       arith,
       count-most (s .count),
-      mean-most (s .places) (s .mean) (few .mean),
+      mean-most (s .places) (s .mean) (s .side) (few .mean),
       value-most (text "H ") (s .void) (s .h) (omega arith) (few .h),
       value-most (text "R ") (s .void) (s .r) (omega arith) (few .r),
       lot-most (s .void) (s .lot),

@@ -1,6 +1,6 @@
 -- The lines of a card: its critical values and its rows. Assumes nothing.
 use mathlib.Core.Path.{_≡_, refl, sym, ap, _∙_}
-use mathlib.Core.Bool.{Bool, true, false, _&&_}
+use mathlib.Core.Bool.{true, false}
 use mathlib.Core.List.{List, _∷_, _++_, append-assoc, append-nil}
 use Prim.Native.Nat.{ℕ, zero, suc, _+_, _-_, _≤_, _<_, min}
 use native.Mathlib.Omega.{arith}
@@ -9,9 +9,9 @@ use native.Mathlib.Decide.{ℕ-discrete, decLt}
 use lib.Dec.{leb}
 use lib.ListN.{length, getD, take, set, replicate}
 use lib.Seq.{take-suc, take-all, take-at, set-at, length-take-le}
-use borrow.Author.Tests.{eq-eqb, ne-eqb, eqb-true, le-leb, leb-true, lt-ltb, le-ltb}
-use Rattle.rules.specs.Limits.{mostHeld, leastReported, criticals, mostRows, highestX, widest}
-use Rattle.rules.specs.Cards.{headGood, rowGood, rowsGood, criticalGood, criticalsGood, cardOf, withCritical, withRow}
+use borrow.Author.Tests.{eq-eqb, ne-eqb, le-leb, leb-true, lt-ltb}
+use Rattle.rules.specs.Limits.{mostHeld, leastReported, criticals, mostRows, highestX}
+use Rattle.rules.specs.Cards.{headGood, rowGood, rowsGood, criticalsGood, cardOf, withCritical, withRow}
 use Rattle.rules.specs.Stages.{mayStand, isOpened}
 use Rattle.rules.specs.Reading.{State, onCard, criticalStep, rangeStep}
 use Rattle.rules.specs.Writing.{criticalLine, maybeLine, criticalLines, rangeLine, rangeLines}
@@ -20,7 +20,7 @@ use Rattle.rules.specs.declared.Card.{Card}
 use Rattle.rules.specs.declared.Stage.the-variants as stage
 use Rattle.rules.specs.declared.Frame.the-variants as frame
 use Rattle.rules.proofs.Tests.{and-left, and-right}
-use Rattle.rules.proofs.CardLaws.{open-card, open-rows}
+use Rattle.rules.proofs.CardLaws.{at-each, critical-at, open-card, open-criticals, open-rows}
 use Rattle.round_trip_theorems.proofs.Spelled.{critical-spells, range-spells}
 use Rattle.round_trip_theorems.proofs.Writable.{Carded}
 use Rattle.round_trip_theorems.proofs.Reached.{Reaches, reach-none, reach-then, reach-line}
@@ -55,24 +55,7 @@ filledTo-all m l e = let z : m - m ≡ 0 = omega arith in rw (z, append-nil) (ta
 pub filledTo-front : (m : ℕ) (l : List ℕ) (n : ℕ) → length l ≡ n → take n (filledTo m l n) ≡ l
 filledTo-front m l n e = take-at (take n l) (replicate (m - n) 0) n (length-take-le n l (omega arith)) ∙ take-all n l (omega arith)
 
--- ---- what holds of the first n, each with its test, holds of each
-at-each : (all : ℕ → Bool) (p : ℕ → Bool) → ((n : ℕ) → all (suc n) ≡ all n && p n) → (n i : ℕ) → all n ≡ true → i < n → p i ≡ true
-at-each all p next zero i e h = absurd (omega arith)
-at-each all p next (suc n) i e h = by (ℕ-discrete i n) (sym (next n) ∙ e) (λ q. at-each all p next n i q)
-  where
-    by : Dec (i ≡ n) → all n && p n ≡ true → (all n ≡ true → i < n → p i ≡ true) → p i ≡ true
-    by (yes q) e r = rw q (and-right (all n) (p n) e)
-    by (no q) e r = r (and-left (all n) (p n) e) (omega arith)
-
--- the place for N = n of a good list: none below N = 5, and four digits have the value
-pub critical-at : (l : List ℕ) (n : ℕ) → criticalsGood l criticals ≡ true → n < criticals → (n < leastReported → getD l n 0 ≡ 0) × (getD l n 0 ≤ widest + 1)
-unfolding criticalsGood
-critical-at l n good h = by (decLt n leastReported) (at-each (criticalsGood l) (λ i. criticalGood i (getD l i 0)) (λ n. refl) criticals n good h)
-  where
-    by : Dec (n < leastReported) → criticalGood n (getD l n 0) ≡ true → (n < leastReported → getD l n 0 ≡ 0) × (getD l n 0 ≤ widest + 1)
-    by (yes p) e = let z = eqb-true (getD l n 0) 0 (rw (lt-ltb n leastReported p) at e) in (λ h. z, omega arith)
-    by (no p) e = (λ h. absurd (p h), leb-true (getD l n 0) (widest + 1) (rw (le-ltb n leastReported (omega arith)) at e))
-
+-- ---- a row of a good card fits its frame
 row-small : (l h b : ℕ) → rowGood l h b ≡ true → (l < 256) × (h < 256) × (b < 65536)
 row-small l h b e =
     let e₂ = and-right (leb leastReported l) _ e in
@@ -106,7 +89,7 @@ pub record CriticalsRead (t : Lot) (c : Card) (n : ℕ) (s : State) : Type 0 whe
 module _ (t : Lot) (c : Card) (w : Carded t c) where
   -- the lists of the card are good
   pub good-criticals : criticalsGood (c .critical) criticals ≡ true
-  good-criticals = and-left _ _ (and-right (headGood (t .attribute) (c .head)) _ (open-card t c (w .opens)))
+  good-criticals = open-criticals t c (w .opens)
 
   good-rows : rowsGood c (c .rows) ≡ true
   good-rows =
