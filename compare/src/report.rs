@@ -72,9 +72,9 @@ impl ExactH {
         (halves / (2 * self.denominator)).unsigned_abs()
     }
 
-    /// How the exact H stands to a number of hundredths.
-    pub fn compare(self, hundredths: u32) -> Ordering {
-        self.numerator.cmp(&(i128::from(hundredths) * self.denominator))
+    /// How the exact H stands to a number of hundredths; below zero it is less than 0.
+    pub fn compare(self, hundredths: u128) -> Ordering {
+        self.numerator.cmp(&(hundredths.cast_signed() * self.denominator))
     }
 }
 
@@ -107,6 +107,15 @@ impl fmt::Display for Decimal {
             write!(f, ".{:0width$}", self.value % unit, width = self.places as usize)?;
         }
         Ok(())
+    }
+}
+
+/// The mark behind a rounded number: how the exact number stands to the one printed.
+pub fn mark(exact: Ordering) -> char {
+    match exact {
+        Ordering::Less => '-',
+        Ordering::Equal => '=',
+        Ordering::Greater => '+',
     }
 }
 
@@ -148,7 +157,8 @@ pub fn text(tally: &Tally) -> Result<String, Refusal> {
 fn write_lines(text: &mut String, attribute: Attribute, card: &Card, figures: &Figures) -> fmt::Result {
     let mean = mean(attribute, figures);
     writeln!(text, "N {}", figures.held)?;
-    writeln!(text, "MEAN {mean}")?;
+    // MEAN has its mark where the lot is void too.
+    writeln!(text, "MEAN {mean}{}", mark(mean_against(attribute, figures, mean.value)))?;
     // The limits are for the exact mean, the row is for the one printed.
     if !figures.mean_within(attribute.mean_limits()) {
         return text.write_str("H void\nR void\nLOT void\n");
@@ -171,6 +181,12 @@ fn mean(attribute: Attribute, figures: &Figures) -> Decimal {
     Decimal { value: (2 * scale * sum + held) / (2 * held), places }
 }
 
+/// How the exact mean stands to a number of units of the printed mean's last place.
+fn mean_against(attribute: Attribute, figures: &Figures, units: u128) -> Ordering {
+    let [sum, held] = [figures.sum, figures.held].map(u128::from);
+    (attribute.mean_scale(figures.held as usize) * sum).cmp(&(units * held))
+}
+
 /// The first row in sheet order with N within its bounds and a mean bound of at least the printed mean. All
 /// places of that mean count: a bound is brought to them, as the mean brought to X's would be rounded again.
 fn row_for<'a>(attribute: Attribute, card: &'a Card, figures: &Figures, mean: &Decimal) -> Option<&'a Row> {
@@ -187,11 +203,12 @@ fn write_h(
 ) -> Result<Verdict, fmt::Error> {
     let exact = ExactH::of(attribute, card, figures);
     let value = Decimal { value: exact.hundredths(), places: 2 };
+    let mark = mark(exact.compare(value.value));
     let critical = card.criticals[figures.held as usize];
     // The verdict is the exact fraction's, not that of the value printed.
-    let verdict = critical.map(|critical| Verdict::of(exact.compare(critical).is_gt()));
+    let verdict = critical.map(|critical| Verdict::of(exact.compare(critical.into()).is_gt()));
     let limit = critical.map(|critical| Decimal { value: critical.into(), places: 2 });
-    write_line(text, 'H', value, limit, verdict)
+    write_line(text, 'H', format_args!("{value}{mark}"), limit, verdict)
 }
 
 fn write_r(
@@ -204,13 +221,14 @@ fn write_r(
     let value = Decimal { value: figures.range().into(), places };
     let verdict = row.map(|row| Verdict::of(figures.range() > row.tolerated.into()));
     let limit = row.map(|row| Decimal { value: row.tolerated.into(), places });
-    write_line(text, 'R', value, limit, verdict)
+    // R is not rounded, and has no mark.
+    write_line(text, 'R', format_args!("{value}"), limit, verdict)
 }
 
 fn write_line(
     text: &mut String,
     name: char,
-    value: Decimal,
+    value: fmt::Arguments,
     limit: Option<Decimal>,
     verdict: Option<Verdict>,
 ) -> Result<Verdict, fmt::Error> {

@@ -357,7 +357,7 @@ mod tests {
     fn marked_cases_1_to_3() {
         assert_eq!(
             printed(C1.as_bytes()),
-            "N 5\nMEAN 98.00\nH 1.55 1.55 over\nR 2.00 2.00 kept\nLOT heterogeneous\n"
+            "N 5\nMEAN 98.00=\nH 1.55+ 1.55 over\nR 2.00 2.00 kept\nLOT heterogeneous\n"
         );
         assert!(with("0305009B", "0305009C").contains("\nH 1.55 1.56 kept\n"));
         let c3 = C1.replace("020A0A", "020B0B").replace("0305009B", "0305007A");
@@ -373,8 +373,8 @@ mod tests {
             }
             printed((sheet + "0605\n").as_bytes())
         };
-        assert_eq!(five("26FC"), "N 5\nMEAN 99.80\nH 0.00 1.55 kept\nR 0.00 none open\nLOT open\n");
-        assert_eq!(five("26FD"), "N 5\nMEAN 99.80\nH void\nR void\nLOT void\n");
+        assert_eq!(five("26FC"), "N 5\nMEAN 99.80=\nH 0.00- 1.55 kept\nR 0.00 none open\nLOT open\n");
+        assert_eq!(five("26FD"), "N 5\nMEAN 99.80+\nH void\nR void\nLOT void\n");
     }
 
     #[test]

@@ -8,7 +8,7 @@ use compare::generate::plan::Plan;
 use compare::generate::sheets::{self, KINDS};
 use compare::generate::weighings::EDGES;
 use compare::prng::Prng;
-use compare::report::FEWEST_REPORTED;
+use compare::report::{ExactH, FEWEST_REPORTED};
 use compare::sheet::{self, END, Frame};
 use compare::subject::{Independent, Subject};
 use compare::tally::Tally;
@@ -217,13 +217,28 @@ fn has_weighings(sheet: &[u8]) -> bool {
     sheet.split(|&byte| byte == END).any(|line| matches!(Frame::parse(line), Some(Frame::Weighed { .. })))
 }
 
+/// A printed figure without its mark.
+fn figure(value: &str) -> &str {
+    value.trim_end_matches(['=', '+', '-'])
+}
+
+/// What lotreport prints for a sheet, with another mark behind H where `mark` has one for the exact H.
+fn marked(sheet: &[u8], mark: impl Fn(ExactH) -> Option<char>) -> String {
+    let tally = sheet::read(sheet).ok().map(|read| read.tally);
+    let mark = tally.and_then(|tally| mark(report::exact_h(&tally)?));
+    lines(sheet, |words| match (words, mark) {
+        (["H", value, limit, word], Some(mark)) => Some(format!("H {}{mark} {limit} {word}", figure(value))),
+        _ => None,
+    })
+}
+
 fn by_printed_value(name: &str, words: &[&str]) -> Option<String> {
     let &[first, value, limit, _] = words else { return None };
-    let (left, right): (f64, f64) = (value.parse().ok()?, limit.parse().ok()?);
+    let (left, right): (f64, f64) = (figure(value).parse().ok()?, limit.parse().ok()?);
     (first == name).then(|| format!("{name} {value} {limit} {}", if left > right { "over" } else { "kept" }))
 }
 
-const FAULTS: [(&str, Fault); 40] = [
+const FAULTS: [(&str, Fault); 46] = [
     ("lower case taken", Fault::Text(|sheet| sheet::printed(&sheet.to_ascii_uppercase()))),
     (
         "byte 0D passed over",
@@ -252,7 +267,9 @@ const FAULTS: [(&str, Fault); 40] = [
         "H over where it is the critical value",
         Fault::Text(|sheet| {
             lines(sheet, |words| match words {
-                ["H", value, limit, "kept"] if value == limit => Some(format!("H {value} {limit} over")),
+                ["H", value, limit, "kept"] if value.strip_suffix('=') == Some(limit) => {
+                    Some(format!("H {value} {limit} over"))
+                }
                 _ => None,
             })
         }),
@@ -272,9 +289,49 @@ const FAULTS: [(&str, Fault); 40] = [
             let text = sheet::printed(sheet);
             let head: Vec<&str> = text.lines().take(2).collect();
             match head[..] {
-                [n, "MEAN 99.80"] => format!("{n}\nMEAN 99.80\nH void\nR void\nLOT void\n"),
+                [n, "MEAN 99.80="] => format!("{n}\nMEAN 99.80=\nH void\nR void\nLOT void\n"),
                 _ => text,
             }
+        }),
+    ),
+    (
+        "mark of H by its critical value",
+        Fault::Text(|sheet| {
+            lines(sheet, |words| {
+                let &["H", value, limit, word] = words else { return None };
+                let (h, critical): (f64, f64) = (figure(value).parse().ok()?, limit.parse().ok()?);
+                Some(format!("H {}{} {limit} {word}", figure(value), report::mark(h.partial_cmp(&critical)?)))
+            })
+        }),
+    ),
+    (
+        "= where the rest is half",
+        Fault::Text(|sheet| {
+            marked(sheet, |h| (2 * h.numerator.rem_euclid(h.denominator) == h.denominator).then_some('='))
+        }),
+    ),
+    ("+ below zero", Fault::Text(|sheet| marked(sheet, |h| (h.numerator < 0).then_some('+')))),
+    (
+        "H cut to hundredths before its mark",
+        Fault::Text(|sheet| marked(sheet, |h| h.compare(h.hundredths()).is_gt().then_some('='))),
+    ),
+    (
+        "no mark behind MEAN where void",
+        Fault::Text(|sheet| {
+            let void = sheet::printed(sheet).contains("H void");
+            lines(sheet, |words| match words {
+                ["MEAN", value] if void => Some(format!("MEAN {}", figure(value))),
+                _ => None,
+            })
+        }),
+    ),
+    (
+        "mark behind R",
+        Fault::Text(|sheet| {
+            lines(sheet, |words| match words {
+                ["R", value, limit, word] => Some(format!("R {value}= {limit} {word}")),
+                _ => None,
+            })
         }),
     ),
     (
@@ -556,7 +613,7 @@ fn sheets_reach_the_limits_they_are_made_for() {
         let held = tally.held().len();
         let Some(h) = report::exact_h(&tally) else { continue };
         let critical = tally.card().criticals[held];
-        equal += usize::from(critical.is_some_and(|critical| h.compare(critical).is_eq()));
+        equal += usize::from(critical.is_some_and(|critical| h.compare(critical.into()).is_eq()));
         half += usize::from(2 * h.numerator % h.denominator == 0 && h.numerator % h.denominator != 0);
         below_zero += usize::from(h.numerator < 0);
         let sum: usize = tally.held().iter().map(|held| usize::from(held.x)).sum();

@@ -24,11 +24,12 @@ fn tally(attribute: u16, xs: &[u16], bounds: &[u16]) -> Tally {
     tally
 }
 
-/// What the report has behind MEAN, and behind R and its value.
+/// What the report has behind MEAN, its mark aside, and behind R and its value.
 fn mean_and_row(attribute: u16, xs: &[u16], bounds: &[u16]) -> (String, String) {
     let text = report::text(&tally(attribute, xs, bounds)).expect("enough results");
     let words: Vec<Vec<&str>> = text.lines().map(|line| line.split(' ').collect()).collect();
-    (words[1][1].into(), words[3].get(2).copied().unwrap_or("void").into())
+    let mean = words[1][1].trim_end_matches(['=', '+', '-']);
+    (mean.into(), words[3].get(2).copied().unwrap_or("void").into())
 }
 
 /// `held` results of `whole`, the last of them so much higher or lower.
@@ -121,7 +122,7 @@ fn void_goes_by_the_exact_mean() {
     report_as(GERMINATION, (5, 100, -2), &[100], "1.00", "void");
     report_as(COUNT, (60, 2, -1), &[2], "1.98", "void");
     let five = report::text(&tally(PURITY, &results(5, 9_980, 2), &[9_980]));
-    assert_eq!(five, Ok("N 5\nMEAN 99.80\nH void\nR void\nLOT void\n".into()));
+    assert_eq!(five, Ok("N 5\nMEAN 99.80+\nH void\nR void\nLOT void\n".into()));
 }
 
 /// For each number of results, and means on either side of a bound: the digits of the MEAN line, read as they

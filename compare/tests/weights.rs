@@ -215,7 +215,7 @@ fn a_frame_of_a_weighing_stands_among_the_results() {
     let others: Vec<String> =
         (2..=5).map(|container| format!("07{container:04X}003F8000003F800000")).collect();
     let [two, three, four, five] = [0, 1, 2, 3].map(|place| others[place].as_str());
-    let report = "N 5\nMEAN 50.00\nH 0.00 none open\nR 0.00 none open\nLOT open\n";
+    let report = "N 5\nMEAN 50.00=\nH 0.00- none open\nR 0.00 none open\nLOT open\n";
     assert_eq!(printed(0, &[GOOD, two, three, four, five, "0605"]), report);
     assert_eq!(printed(0, &["0500011388", two, "0500031388", four, five, "0605"]), report);
     assert_eq!(printed(0, &[GOOD, "0605"]), "REFUSED 14 4\n");
