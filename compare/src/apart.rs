@@ -1,10 +1,13 @@
-//! Where the printed mean and the exact one part: reports that show by which of the two a program goes.
+//! Reports that show what a program goes by: where the printed mean and the exact one part, and where H and the critical value print
+//! equal, so that the mark tells the verdict.
+
+use std::cmp::Ordering;
 
 use crate::card::Attribute;
 use crate::report;
 use crate::tally::Tally;
 
-/// How many reports were looked at, and how many of them would be others by the other mean.
+/// How many reports were looked at, how many of them would be others by the other mean, and how many have equal figures.
 #[derive(Clone, Copy, Debug, Default, PartialEq, Eq)]
 pub struct Apart {
     pub reports: usize,
@@ -12,6 +15,8 @@ pub struct Apart {
     pub rows: usize,
     /// Those that are void though the printed mean is within the limits.
     pub voids: usize,
+    /// Those with an H that prints as the critical value does: exact H below it, equal to it, above it.
+    pub equal: [usize; 3],
 }
 
 impl Apart {
@@ -20,6 +25,9 @@ impl Apart {
         self.reports += usize::from(report::printed_mean(tally).is_some());
         self.rows += usize::from(in_row(tally));
         self.voids += usize::from(in_void(tally));
+        for (times, side) in self.equal.iter_mut().zip([Ordering::Less, Ordering::Equal, Ordering::Greater]) {
+            *times += usize::from(equal_figures(tally) == Some(side));
+        }
     }
 }
 
@@ -41,4 +49,11 @@ pub fn in_void(tally: &Tally) -> bool {
     let (least, greatest) = attribute.mean_limits();
     let within = u128::from(least) * scale..=u128::from(greatest) * scale;
     report::exact_h(tally).is_none() && within.contains(&mean.value)
+}
+
+/// How exact H stands to the critical value, where both print equal.
+pub fn equal_figures(tally: &Tally) -> Option<Ordering> {
+    let h = report::exact_h(tally)?;
+    let critical = tally.card().criticals[tally.held().len()]?.into();
+    (h.hundredths() == critical).then(|| h.compare(critical))
 }

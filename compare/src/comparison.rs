@@ -42,6 +42,9 @@ impl Comparison {
         self.count(what, apart.reports);
         self.count(&format!("{what}, of them with {MISSED}"), apart.rows);
         self.count(&format!("{what}, of them {VOID}"), apart.voids);
+        for (mark, times) in ['-', '=', '+'].into_iter().zip(apart.equal) {
+            self.count(&format!("{what}, of them with equal figures of H and {mark}"), times);
+        }
     }
 
     pub(crate) fn reach(&mut self, answer: String) {

@@ -359,9 +359,9 @@ mod tests {
             printed(C1.as_bytes()),
             "N 5\nMEAN 98.00=\nH 1.55+ 1.55 over\nR 2.00 2.00 kept\nLOT heterogeneous\n"
         );
-        assert!(with("0305009B", "0305009C").contains("\nH 1.55 1.56 kept\n"));
+        assert!(with("0305009B", "0305009C").contains("\nH 1.55+ 1.56 kept\n"));
         let c3 = C1.replace("020A0A", "020B0B").replace("0305009B", "0305007A");
-        assert!(printed(c3.as_bytes()).contains("\nH 1.22 1.22 kept\n"));
+        assert!(printed(c3.as_bytes()).contains("\nH 1.22- 1.22 kept\n"));
     }
 
     #[test]
@@ -379,9 +379,9 @@ mod tests {
 
     #[test]
     fn marked_cases_6_to_8() {
-        assert!(counts("0A0A", "0384").contains("\nH 9.00 9.00 kept\n"));
-        assert!(counts("2000", "0138").contains("\nH 3.13 3.12 over\n"));
-        assert!(counts("2000", "0139").contains("\nH 3.13 3.13 kept\n"));
+        assert!(counts("0A0A", "0384").contains("\nH 9.00= 9.00 kept\n"));
+        assert!(counts("2000", "0138").contains("\nH 3.13- 3.12 over\n"));
+        assert!(counts("2000", "0139").contains("\nH 3.13- 3.13 kept\n"));
         assert!(counts("2000", "0139").contains("\nR 10 none open\n"));
     }
 

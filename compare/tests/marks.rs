@@ -6,7 +6,8 @@ use compare::sheet;
 /// The lines MEAN and H of a sheet's report, and whatever is behind N, R and LOT.
 #[track_caller]
 fn prints(attribute: u16, card: &str, xs: &[u16], mean: &str, h: &str) {
-    let results: Vec<String> = (1..).zip(xs).map(|(container, x)| format!("05{container:04X}{x:04X}\n")).collect();
+    let results: Vec<String> =
+        (1..).zip(xs).map(|(container, x)| format!("05{container:04X}{x:04X}\n")).collect();
     let sheet = format!("01{attribute:02X}0028\n{card}{}06{:02X}\n", results.concat(), xs.len());
     let text = sheet::printed(sheet.as_bytes());
     let lines: Vec<&str> = text.lines().collect();
