@@ -61,65 +61,38 @@ other-digit : (b n : ℕ) → (lastDigit n ≡ b → ⊥) → Lacks b (byte (las
 unfolding occurs
 other-digit b n h = record { is = rw (ne-eqb (lastDigit n) b h) refl }
 
+-- shown by computing: the end byte, the blank and the three marks
+apart-of : (b : ℕ) → ((n : ℕ) → lastDigit n ≡ b → ⊥) → occurs b (text ".") ≡ 0 → occurs b (text "none") ≡ 0 → occurs b (text "kept") ≡ 0
+    → occurs b (text "over") ≡ 0 → occurs b (text "open") ≡ 0 → Apart b
+apart-of b digit point none kept over undecided =
+    record {
+      digit = λ n. other-digit b n (digit n);
+      point = written _ point;
+      none = written _ none;
+      kept = written _ kept;
+      over = written _ over;
+      undecided = written _ undecided;
+    }
+
 pub end-apart : Apart 10
 unfolding occurs
-end-apart =
-    record {
-      digit = λ n. other-digit 10 n (λ e. omega arith);
-      point = written _ refl;
-      none = written _ refl;
-      kept = written _ refl;
-      over = written _ refl;
-      undecided = written _ refl;
-    }
+end-apart = apart-of 10 (λ n e. omega arith) refl refl refl refl refl
 
 pub blank-apart : Apart 32
 unfolding occurs
-blank-apart =
-    record {
-      digit = λ n. other-digit 32 n (λ e. omega arith);
-      point = written _ refl;
-      none = written _ refl;
-      kept = written _ refl;
-      over = written _ refl;
-      undecided = written _ refl;
-    }
+blank-apart = apart-of 32 (λ n e. omega arith) refl refl refl refl refl
 
 pub larger-apart : Apart 43
 unfolding occurs
-larger-apart =
-    record {
-      digit = λ n. other-digit 43 n (λ e. omega arith);
-      point = written _ refl;
-      none = written _ refl;
-      kept = written _ refl;
-      over = written _ refl;
-      undecided = written _ refl;
-    }
+larger-apart = apart-of 43 (λ n e. omega arith) refl refl refl refl refl
 
 pub smaller-apart : Apart 45
 unfolding occurs
-smaller-apart =
-    record {
-      digit = λ n. other-digit 45 n (λ e. omega arith);
-      point = written _ refl;
-      none = written _ refl;
-      kept = written _ refl;
-      over = written _ refl;
-      undecided = written _ refl;
-    }
+smaller-apart = apart-of 45 (λ n e. omega arith) refl refl refl refl refl
 
 pub equal-apart : Apart 61
 unfolding occurs
-equal-apart =
-    record {
-      digit = λ n. other-digit 61 n (λ e. omega arith);
-      point = written _ refl;
-      none = written _ refl;
-      kept = written _ refl;
-      over = written _ refl;
-      undecided = written _ refl;
-    }
+equal-apart = apart-of 61 (λ n e. omega arith) refl refl refl refl refl
 
 -- ---- digits
 module _ {b : ℕ} (digit : (n : ℕ) → Lacks b (byte (lastDigit n))) where

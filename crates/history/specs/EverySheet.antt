@@ -23,8 +23,8 @@ pub data Prints (sheet text : List ℕ) : Type 0 where
   -- it has too few results
   few : (g : Ledger) (lines : ℕ) → readOf sheet ≡ accepted g lines → held g < leastReported → text ≡ refusedLine 15 lines → Prints sheet text
   -- it is judged: the ledger is that of an open of its lot with its card and of an enter for each of its results, all of them
-  -- accepted; the text is the report of that ledger, and its H, where it is worked out, is the nearest decimal, with over and kept by
-  -- the exact fraction
+  -- accepted; the text is the report of that ledger, its mean and its H, where that is worked out, are the nearest decimals with their
+  -- marks, and over and kept are by the exact fraction
   judged : (g : Ledger) (lines : ℕ) → readOf sheet ≡ accepted g lines → Spelled sheet g → leastReported ≤ held g → text ≡ reportOf g → ReportLines g text → Prints sheet text
 
 pub record EverySheet : Type 0 where

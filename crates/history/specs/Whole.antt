@@ -35,5 +35,5 @@ pub record Whole : Type 0 where
   pub alike : (cs ds : Calls) (ns ms : List Answer) (t u : Tally) → Run cs ns t → Run ds ms u → ledger cs ≡ ledger ds
       → (κ₁ κ₂ : Lft) (b₁ b₂ : RefT (List ℕ)) → length (now b₁) ≡ length (now b₂)
       → (r₁ r₂ : Reported) (a₁ a₂ : RefT (List ℕ)) → ReportStep κ₁ t b₁ r₁ a₁ → ReportStep κ₂ u b₂ r₂ a₂ → SameReport (now b₁) (now b₂) r₁ r₂ (now a₁) (now a₂)
-  -- the text of such a report: N is the number held, and H where it is worked out
+  -- the text of such a report: N is the number held; the mean, and H where it is worked out, each with its mark
   pub reports : (cs : Calls) (ns : List Answer) (t : Tally) → Run cs ns t → (κ : Lft) (b : RefT (List ℕ)) (n : ℕ) (a : RefT (List ℕ)) → ReportStep κ t b (Length n) a → ReportLines (ledger cs) (take n (now a))
