@@ -17,7 +17,7 @@ use Rattle.rules.specs.declared.Fraction.{Fraction}
 use Rattle.rules.specs.declared.Limit.{Limit}
 use Rattle.rules.specs.declared.Limit.the-variants.{Absent, At}
 use Rattle.rules.proofs.RoundingLaws.{low}
-use Rattle.rules.proofs.SpreadLaws.{highestH, ratio-le, under-positive}
+use Rattle.rules.proofs.SpreadLaws.{highest-most, ratio-le, under-positive}
 use Rattle.rounding.specs.Dividing.{Workable, workable, divisionOf, isAbove}
 use Rattle.rounding.proofs.DividingLaws.{workable-of, above-is}
 use Rattle.rounding.specs.declared.Division.{Division}
@@ -68,11 +68,6 @@ module _ (f : Figures) (m : Served f) where
     under-most Purity = percentages-most
     under-most Germination = percentages-most
     under-most Count = omega (arith, counts-most)
-
-    highest-most : (a : Attribute) → highestH a ≤ 12500
-    highest-most Purity = omega arith
-    highest-most Germination = omega arith
-    highest-most Count = omega arith
 
     -- 100·V/W can be worked out where the mean is not void
     pub h-workable : (a : Attribute) → isVoid a (f .count) (f .sum) ≡ false → Workable 100 (ratio a h f .over) (ratio a h f .under)

@@ -108,7 +108,7 @@ abbrev pub lot : Ledger → Verdict
 lot g = together (h g .verdict) (r g .verdict)
 
 module _ (g : Ledger) (pos : 0 < quotient g .under) where
-  pub against-is : (v : ℕ) → Against g (h g .value) v (verdictWord (verdictBy (exceeds (quotient g) (g .card .head .offset) v)))
+  against-is : (v : ℕ) → Against g (h g .value) v (verdictWord (verdictBy (exceeds (quotient g) (g .card .head .offset) v)))
   unfolding verdictWord exceeds
   against-is v =
       let offset = g .card .head .offset in

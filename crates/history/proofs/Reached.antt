@@ -14,8 +14,6 @@ use Rattle.rules.specs.Attributes.{isVoid}
 use Rattle.rules.specs.Figures.{figures, reportedH, criticalAt, criticalFor}
 use Rattle.rules.specs.Spread.{HeadWithin}
 use Rattle.rules.specs.Ledger.{Ledger, containers, held}
-use Rattle.rules.specs.declared.Attribute.{Attribute}
-use Rattle.rules.specs.declared.Attribute.the-variants.{Purity, Germination, Count}
 use Rattle.rules.specs.declared.Figures.{Figures}
 use Rattle.rules.specs.declared.Limit.the-variants.{At}
 use Rattle.rules.specs.declared.Lot.{Lot}
@@ -25,7 +23,7 @@ use Rattle.rules.proofs.CardLaws.{critical-at, open-criticals}
 use Rattle.rules.proofs.ContentLaws.{free-is}
 use Rattle.rules.proofs.CountLaws.{total-counted, largest-counted}
 use Rattle.rules.proofs.LedgerLaws.{enter-tells, enter-held}
-use Rattle.rules.proofs.SpreadLaws.{highestH}
+use Rattle.rules.proofs.SpreadLaws.{highest-most}
 use Rattle.tally.specs.declared.Tally.{Tally}
 use Rattle.tally.specs.View.{view}
 use Rattle.tally.specs.Calls.{Sound}
@@ -85,11 +83,6 @@ made-reached (enters {g = g} k x m e) =
     })
 
 -- ---- the two figures of H keep within twenty-two digits
-highest-most : (a : Attribute) → highestH a ≤ 12500
-highest-most Purity = omega arith
-highest-most Germination = omega arith
-highest-most Count = omega arith
-
 module _ (g : Ledger) (r : Reached g) (many : leastReported ≤ held g) where
   pub value-high : isVoid (attribute g) (held g) (figures g .sum) ≡ false → reportedH (quotient g) (g .card .head .offset) .nearest < 10 ^ 22
   value-high e =

@@ -45,8 +45,8 @@ fn split(scale: u64, over: u64, under: u64) -> Parts
     }
 }
 
-// A whole number and a rest of which under make one more: the nearest whole number, and on which side of it they are. They are half and
-// more of one short of the next number, less than half above the number itself, or the number itself.
+// A whole number and a rest, of which under make one more, rounded. With half of one more the next number is nearest and the exact one
+// smaller; with less the number itself is nearest and the exact one larger, or equal where there is no rest.
 fn round(whole: u64, rest: u64, under: u64) -> Rounded
     requires { ⌜ Parted whole rest under ⌝ }
     ensures { λ r. ⌜ r ≡ roundedOf (whole * under + rest) under ⌝ }

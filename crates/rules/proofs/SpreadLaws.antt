@@ -113,6 +113,11 @@ highestH Purity = 1250
 highestH Germination = 1250
 highestH Count = 12500
 
+pub highest-most : (a : Attribute) → highestH a ≤ 12500
+highest-most Purity = omega arith
+highest-most Germination = omega arith
+highest-most Count = omega arith
+
 percentages-le : (h : Head) (f : Figures) → Spread highestX f → leastReported ≤ f .count → HeadWithin h → ofPercentages h f .over ≤ 1250 * ofPercentages h f .under
 percentages-le h f s n w =
     let p = f .sum * (highestX * f .count - f .sum) in
