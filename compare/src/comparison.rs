@@ -37,7 +37,7 @@ impl Comparison {
         *self.compared.entry(what.into()).or_default() += number;
     }
 
-    /// Counts reports, and how many of them show by which mean a program goes.
+    /// Counts reports, how many of them show by which mean a program goes, and how many have equal figures of H.
     pub(crate) fn count_reports(&mut self, what: &str, apart: &Apart) {
         self.count(what, apart.reports);
         self.count(&format!("{what}, of them with {MISSED}"), apart.rows);

@@ -3,7 +3,7 @@
 
 use compare::sheet;
 
-/// The lines MEAN and H of a sheet's report, and whatever is behind N, R and LOT.
+/// The lines MEAN and H of a sheet's report are these, and N, R and LOT have no mark.
 #[track_caller]
 fn prints(attribute: u16, card: &str, xs: &[u16], mean: &str, h: &str) {
     let results: Vec<String> =
@@ -17,7 +17,7 @@ fn prints(attribute: u16, card: &str, xs: &[u16], mean: &str, h: &str) {
     }
 }
 
-/// F = G = 10, n = 1000 seeds, and without another number behind it no critical value.
+/// F = G = 10, and n = 1000 seeds or a count; no critical value and no row.
 const PERCENT: &str = "020A0A03E8\n";
 const COUNT: &str = "020A0A0000\n";
 
