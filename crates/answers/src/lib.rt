@@ -1,4 +1,6 @@
 // Of each answer its number and its value or length: the one place that host, programs and tests take them from.
+#![tactic(auto)]
+
 ghost use Rattle.std.specs.Prelude.{◌≡◌};
 ghost use Rattle.rules.specs.Numbers.{number_of, tells, samples_answer, tolerance_answer, mixing_answer, weight_answer, share_answer, has_size, reported_size, written_size, printed_size};
 

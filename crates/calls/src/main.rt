@@ -6,6 +6,8 @@
 //     join TALLY (the other)    report TALLY    write TALLY    writelist TALLY
 //     list TALLY WORD WORD .. (a comma list: each word is one line of it)
 //     sampling CONTAINERS KILOGRAMS    label LABELLED FOUND    pair FIRST SECOND    mixing TOLERATED X X ..
+#![tactic(auto)]
+
 mod beside;
 mod lines;
 mod print;

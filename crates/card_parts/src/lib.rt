@@ -1,4 +1,6 @@
 // The checks of a lot, and of what one frame gives a card.
+#![tactic(auto)]
+
 ghost use Rattle.std.specs.Prelude.{◌≡◌};
 ghost use Rattle.rules.specs.Cards.{lot_good, seeds_good, head_good, critical_follows, row_good};
 

@@ -1,4 +1,6 @@
 // An answer as one number, for a host program.
+#![tactic(auto)]
+
 ghost use Rattle.std.specs.Prelude.{◌≡◌, min};
 ghost use Rattle.rules.specs.Limits.{widest};
 ghost use Rattle.codes.specs.Codes.{code_of, answer_code, size_code, fault_code_of, call_code_of};

@@ -1,4 +1,6 @@
 // The digits at the front of a sheet's line, as a part of the sheet.
+#![tactic(auto)]
+
 ghost use Rattle.std.specs.Prelude.{◌≡◌, ◌+◌, ◌≤◌, length, drop};
 ghost use Rattle.rules.specs.Limits.{most_digits};
 ghost use Rattle.rules.specs.Fields.{is_digit};

@@ -1,4 +1,6 @@
 // A word of bytes read as a decimal number. What is right is said in specs/Words.antt.
+#![tactic(auto)]
+
 ghost use Rattle.std.specs.Prelude.{◌≡◌, ◌+◌, ◌-◌, ◌*◌, ◌≤◌};
 ghost use Rattle.rules.specs.Decimals.{is_decimal};
 ghost use Rattle.decimal_words.specs.Words.{capped, word_of};

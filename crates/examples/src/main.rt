@@ -1,5 +1,7 @@
 // The test program: sheets of published examples, of the cases that mislead, and of the vectors; and the vectors' comma lists, entered in
 // a sheet and written of one. One line for each group, and a total.
+#![tactic(auto)]
+
 mod comma_lists;
 mod files;
 mod sheets;

@@ -1,4 +1,6 @@
 // The findings of a report: what its five lines say.
+#![tactic(auto)]
+
 ghost use Rattle.std.specs.Prelude.{◌≡◌, ◌≤◌};
 ghost use Rattle.rules.specs.Figures.{figures_of, mean_of, less_whole};
 ghost use Rattle.rules.specs.Report.{no_value, findings_of};

@@ -1,4 +1,6 @@
 // A line's fields of hexadecimal digits, and the frame that a line is.
+#![tactic(auto)]
+
 ghost use Rattle.std.specs.Prelude.{◌≡◌, true, ◌+◌, ◌≤◌, length};
 ghost use Rattle.rules.specs.Fields.{is_digit, all_digits, value_of, field_of};
 ghost use Rattle.rules.specs.Frames.{lot_frame, card_frame, critical_frame, range_frame, result_frame, end_frame, float_of, balance_frame, kind_frame, frame_of};

@@ -1,4 +1,6 @@
 // What a line of lot or card does to what the lines before it came to.
+#![tactic(auto)]
+
 ghost use Rattle.std.specs.Prelude.{◌≡◌, true};
 ghost use Rattle.rules.specs.declared.Frame.{Frame};
 ghost use Rattle.rules.specs.declared.Frame.TheVariants as frame;

@@ -1,6 +1,8 @@
 // The two lists of a tally, of containers and of results, by themselves: which containers are held, the range of the results, and
 // others laid behind them.
 // A number of places counts up to the places that a list has.
+#![tactic(auto)]
+
 ghost use Rattle.std.specs.Prelude.{◌≡◌, true, List, ℕ, ◌+◌, ◌≤◌, min};
 ghost use Rattle.rules.specs.Limits.{most_held, widest};
 ghost use Rattle.rules.specs.Contents.{is_held};

@@ -1,5 +1,7 @@
 // The calls for a host program in C or Rust. Each is exported under its own name, takes numbers and lent lists, and answers one
 // number. host/gelvorin.h says for the host's programmer what each answers.
+#![tactic(auto)]
+
 ghost use Rattle.std.specs.Prelude.{◌≡◌};
 ghost use Rattle.rules.specs.Numbers.{weight_answer, share_answer};
 ghost use Rattle.rules.specs.Weights.{tenths_of, weighed_of};

@@ -1,4 +1,6 @@
 // What a sheet is told: all that lotreport prints for it.
+#![tactic(auto)]
+
 ghost use Rattle.std.specs.Prelude.{◌≡◌};
 ghost use Rattle.rules.specs.Numbers.{printed_answer};
 ghost use Rattle.rules.specs.Printing.{print_on};

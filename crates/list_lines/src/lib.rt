@@ -1,5 +1,7 @@
 // A line of a comma list: container, comma, value. What is right is said in rules/specs/ListReading.antt; how a line is handed on in
 // specs/Lines.antt.
+#![tactic(auto)]
+
 ghost use Rattle.std.specs.Prelude.{◌≡◌, ◌+◌, ◌≤◌, length, drop};
 ghost use Rattle.rules.specs.ListReading.{leads_zero, first, plain_of, hundredths_of, percent_of, value_of, say_of};
 ghost use Rattle.decimal_words.specs.Words.{capped};

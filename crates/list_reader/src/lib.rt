@@ -1,4 +1,6 @@
 // A comma list read into a tally: the enters of its lines one after another, on copies of the two lists.
+#![tactic(auto)]
+
 ghost use Rattle.list_reader.specs.Promise.{EntersEntry, Takes, Lists};
 
 use list_lines::Entry;

@@ -1,5 +1,7 @@
 // A list of calls on two tallies as bytes, made one after the other; compare/src/calls.rs says how a list and its answers are
 // written. A test library, which `compare` links: it is proved safe, and what it answers is compared.
+#![tactic(auto)]
+
 ghost use Rattle.std.specs.Prelude.{◌≤◌, length};
 
 mod numbers;

@@ -1,5 +1,7 @@
 // lotenter SHEET LIST: reads a sheet and a comma list from the files of these names and prints the sheet with the list entered, or the
 // line of the first fault, with its file (1 the sheet, 2 the list). A file that cannot be read, or is not named, counts as empty.
+#![tactic(auto)]
+
 ghost use Rattle.std.specs.Prelude.{◌≡◌, List, ℕ, ◌≤◌, length, take};
 ghost use Rattle.rules.specs.Limits.{list_places};
 ghost use Rattle.rules.specs.Printing.{ended_bytes, enter_prints};

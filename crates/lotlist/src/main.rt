@@ -1,4 +1,6 @@
 // lotlist: reads a sheet from standard input and prints its results as a comma list, or the line of its first fault.
+#![tactic(auto)]
+
 ghost use Rattle.std.specs.Prelude.{◌≡◌, List, ℕ, ◌≤◌, length};
 ghost use Rattle.rules.specs.Numbers.{printed_answer};
 ghost use Rattle.rules.specs.Text.{laid_in};

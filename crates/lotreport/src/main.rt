@@ -1,4 +1,6 @@
 // lotreport: reads a sheet from standard input and prints the report of its lot, or the line of its first fault.
+#![tactic(auto)]
+
 ghost use Rattle.std.specs.Prelude.{List, ℕ};
 ghost use Rattle.rules.specs.Printing.{printed_for};
 ghost use Rattle.io.specs.Counts.{IsPrefixLen};

@@ -1,4 +1,6 @@
 // lotsampling CONTAINERS KILOGRAMS: prints the number of primary samples for so many containers of so many whole kg each.
+#![tactic(auto)]
+
 ghost use Rattle.std.specs.Prelude.{◌≡◌, List, ℕ};
 ghost use Rattle.io.specs.Counts.{IsPrefixLen};
 ghost use Rattle.decimal.specs.Laying.{Laid};

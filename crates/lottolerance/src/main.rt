@@ -1,4 +1,6 @@
 // lottolerance label LABELLED FOUND, lottolerance pair FIRST SECOND: prints `within` or `out`, by the tables 14G and 14H.
+#![tactic(auto)]
+
 ghost use Rattle.std.specs.Prelude.{◌≡◌, List, ℕ};
 ghost use Rattle.io.specs.Counts.{IsPrefixLen};
 ghost use Rattle.decimal.specs.Laying.{Laid};

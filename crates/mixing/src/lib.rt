@@ -1,4 +1,6 @@
 // Which component lots may be mixed (002, 10.3). What is right is said in rules' specs/Mixing.antt.
+#![tactic(auto)]
+
 ghost use Rattle.std.specs.Prelude.{◌≡◌};
 ghost use Rattle.rules.specs.Numbers.{mixing_answer};
 ghost use Rattle.rules.specs.Mixing.{mixing_of, largest_of, smallest_of};

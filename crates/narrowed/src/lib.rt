@@ -1,5 +1,7 @@
 // A container and a result of 32 bits, handed on to the calls on a tally, which take 16. What is handed on is answered as the number
 // itself is (proofs/Answered.antt).
+#![tactic(auto)]
+
 ghost use Rattle.std.specs.Prelude.{◌≡◌};
 ghost use Rattle.narrowed.specs.Narrowed.{kept_container, kept_x};
 

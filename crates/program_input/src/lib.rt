@@ -1,4 +1,6 @@
 // The sheet that a program reads: as many bytes as decide what it says, whatever follows them.
+#![tactic(auto)]
+
 ghost use Rattle.std.specs.Prelude.{◌≡◌, List, ℕ};
 ghost use Rattle.rules.specs.Reading.{read_of};
 ghost use Rattle.program_input.specs.Input.{BeginsWith};

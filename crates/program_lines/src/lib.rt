@@ -1,4 +1,6 @@
 // The line that lotsampling, lottolerance and lotmixing print for what they say. What is right is said in specs/Lines.antt.
+#![tactic(auto)]
+
 ghost use Rattle.std.specs.Prelude.{◌++◌, ◌≤◌, length};
 ghost use Rattle.rules.specs.Text.{decimal};
 ghost use Rattle.decimal.specs.Laying.{LaysAt};

@@ -1,5 +1,7 @@
 // What lotsampling, lottolerance and lotmixing are given, and what they say to it: the words as numbers, and a call's answer. What is
 // right is said in specs/Saying.antt, and what a word is given as in specs/Given.antt.
+#![tactic(auto)]
+
 ghost use Rattle.std.specs.Prelude.{◌≡◌, List, ℕ, take, replicate};
 ghost use Rattle.decimal_words.specs.Words.{word_of};
 ghost use Rattle.program_words.specs.Given.{word_places, GivenAs};

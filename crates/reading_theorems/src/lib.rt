@@ -1,1 +1,3 @@
 // No functions: what the definition of reading a sheet comes to, whoever reads it.
+#![tactic(auto)]
+

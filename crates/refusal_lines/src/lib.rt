@@ -1,4 +1,6 @@
 // The line of a refusal: REFUSED, its number, and where the fault stands. Each goes into a buffer where it fits.
+#![tactic(auto)]
+
 ghost use Rattle.std.specs.Prelude.{◌≡◌, length};
 ghost use Rattle.rules.specs.Numbers.{number_of, printed_answer};
 ghost use Rattle.rules.specs.Text.{laid_in};

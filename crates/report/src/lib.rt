@@ -1,4 +1,6 @@
 // The report of a tally: five lines, laid into a buffer that is lent.
+#![tactic(auto)]
+
 ghost use Rattle.report.specs.Reports.{Reports};
 
 use findings::Found;

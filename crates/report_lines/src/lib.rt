@@ -1,4 +1,6 @@
 // The five lines of a report. Each writer of a line gets the rest of the buffer, behind the lines already laid down.
+#![tactic(auto)]
+
 ghost use Rattle.std.specs.Prelude.{◌≡◌, ◌++◌};
 ghost use Rattle.rules.specs.Numbers.{reported_answer};
 ghost use Rattle.rules.specs.Text.{byte as Text·byte, text, pointed, laid_in};

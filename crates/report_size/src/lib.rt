@@ -1,4 +1,6 @@
 // How long the five lines are, so that nothing is written where they do not fit.
+#![tactic(auto)]
+
 ghost use Rattle.std.specs.Prelude.{◌≡◌, [], ◌≤◌, length};
 ghost use Rattle.rules.specs.Text.{pointed};
 ghost use Rattle.rules.specs.Report.{mark_text, limit_text, value_line, lot_verdict_line, findings_text};

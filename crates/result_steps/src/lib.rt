@@ -1,4 +1,6 @@
 // What a line of a sheet does once the lot is opened: a result is entered or weighed, and the end counts them.
+#![tactic(auto)]
+
 ghost use Rattle.std.specs.Prelude.{◌≡◌, List, ℕ, ◌<◌};
 ghost use Rattle.rules.specs.Limits.{most_held};
 ghost use Rattle.rules.specs.Numbers.{number_of};

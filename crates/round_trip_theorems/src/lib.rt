@@ -1,1 +1,3 @@
 // No functions: what is written reads back as the same lot, card and held results.
+#![tactic(auto)]
+

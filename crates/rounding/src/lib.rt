@@ -1,5 +1,7 @@
 // The rounding step: a division, rounded half up, with the side of the rounded number on which the exact one is; and whether a quotient
 // is above a whole number.
+#![tactic(auto)]
+
 ghost use Rattle.std.specs.Prelude.{◌≡◌, ◌+◌, ◌*◌, ◌/◌, ◌%◌};
 ghost use Rattle.rules.specs.Rounding.{rounded_of};
 ghost use Rattle.rounding.specs.Dividing.{workable as Dividing·workable, Workable, Parted, division_of, is_above};

@@ -30,6 +30,7 @@ impl Attribute {
     }
 
     // Whether the mean of n results with the sum s is beyond the attribute's limits.
+    #[tactic(auto, unfolding(crate::specs::Attributes::is_void))]
     pub fn is_void(self, n: u16, s: u32) -> bool
         ensures { result ≡ is_void self n s }
     {
@@ -67,6 +68,7 @@ impl Attribute {
     }
 
     // How many units of the mean's last place make one unit of X.
+    #[tactic(auto, unfolding(crate::specs::Attributes::mean_scale))]
     pub fn mean_scale(self, n: u16) -> u16
         ensures { (result ≡ mean_scale self n) × (result ≤ 100) }
     {

@@ -1,5 +1,6 @@
 // The plain data of a lot's results: attribute, lot, card, the frames of a sheet, the numbered refusals, what a report finds, and the
 // answers of the calls. What each means is said in specs/.
+#![tactic(auto)]
 
 pub mod attributes;
 pub mod refusals;

@@ -1,4 +1,6 @@
 // Whether two lots are the same, and two cards.
+#![tactic(auto)]
+
 ghost use Rattle.std.specs.Prelude.{◌≡◌, ◌≤◌};
 ghost use Rattle.rules.specs.Limits.{criticals, most_rows};
 ghost use Rattle.rules.specs.Cards.{agree, same_lot, same_head, same_rows, same_good};

@@ -1,4 +1,6 @@
 // The number of primary samples (000, 2.5.1.2). What is right is said in rules' specs/Sampling.antt.
+#![tactic(auto)]
+
 ghost use Rattle.std.specs.Prelude.{◌≡◌, ◌+◌, ◌-◌, ◌*◌, ◌≤◌, ◌<◌, ◌^◌};
 ghost use Rattle.rules.specs.Numbers.{samples_answer};
 ghost use Rattle.rules.specs.Limits.{widest};

@@ -1,5 +1,7 @@
 // A sheet's bytes in; its tally or its first fault out. The lines of lot and card are read first, then, once the lot is opened, those
 // of the results.
+#![tactic(auto)]
+
 ghost use Rattle.std.specs.Prelude.{ℕ};
 ghost use Rattle.rules.specs.Numbers.{number_of};
 ghost use Rattle.rules.specs.Reading.{refused as Reading·refused, read_of};

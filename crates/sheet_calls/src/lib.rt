@@ -1,5 +1,7 @@
 // Calls on a sheet: it is read, a call is made on its tally, and the sheet after the call is written. A refused call leaves the buffer
 // as it was.
+#![tactic(auto)]
+
 ghost use Rattle.std.specs.Prelude.{◌≡◌};
 ghost use Rattle.rules.specs.OnSheets.{on_sheet_answer, enter_sheet, withdraw_sheet, enter_list_sheet};
 ghost use Rattle.sheet_calls.specs.Promise.{WroteSheet, FollowsCall};

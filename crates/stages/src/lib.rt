@@ -1,4 +1,6 @@
 // What may stand next in a sheet, and whether it may end.
+#![tactic(auto)]
+
 ghost use Rattle.std.specs.Prelude.{◌≡◌};
 ghost use Rattle.rules.specs.Stages.{is_of_results, may_stand, is_ended};
 

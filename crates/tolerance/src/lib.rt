@@ -1,4 +1,6 @@
 // The AOSA tables 14G and 14H (004): a label against a test, and two tests. What is right is said in rules' specs/Tolerance.antt.
+#![tactic(auto)]
+
 ghost use Rattle.std.specs.Prelude.{◌≡◌};
 ghost use Rattle.rules.specs.Numbers.{tolerance_answer};
 ghost use Rattle.rules.specs.Rounding.{distance};

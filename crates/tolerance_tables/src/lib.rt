@@ -1,5 +1,7 @@
 // The AOSA tables 14G and 14H, and how they are read. The compiler lays a constant array out anew at each use, so that a table has
 // numbers no wider than it needs and is used once in a call.
+#![tactic(auto)]
+
 ghost use Rattle.std.specs.Prelude.{◌≡◌, map, ◌≤◌, get_or};
 ghost use Rattle.rules.specs.Tolerance.{table14_g, table14_h, difference_for};
 ghost use Rattle.tolerance_tables.specs.Entries.{coded, most_found, tolerated_difference};

@@ -1,4 +1,6 @@
 // What H and R are set against, and the verdicts.
+#![tactic(auto)]
+
 ghost use Rattle.std.specs.Prelude.{◌≡◌, ◌&&◌, ◌+◌, ◌*◌, min, leb, ltb};
 ghost use Rattle.rules.specs.Limits.{most_rows};
 ghost use Rattle.rules.specs.Figures.{critical_at, tolerated_upto, verdict_by, verdict_on, together as rule·together};

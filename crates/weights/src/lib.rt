@@ -1,4 +1,6 @@
 // What a balance sends of a sample: 32 float bits to tenths of a milligram, and two weights to X.
+#![tactic(auto)]
+
 ghost use Rattle.std.specs.Prelude.{◌≡◌};
 ghost use Rattle.std.specs.Float.{binary32};
 ghost use Rattle.std.specs.Float.Ieee.{of_bits, to_bits};
