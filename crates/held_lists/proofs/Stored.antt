@@ -4,7 +4,7 @@ use native.Mathlib.Omega.{arith}
 use native.Mathlib.Numerals.{add-one}
 use native.Mathlib.Decide.{ℕ_discrete, dec_lt}
 use mathlib.Core.Bool.{Bool, true, false, not, ◌&&◌, ◌||◌}
-use mathlib.Core.Path.{◌≡◌, refl, sym, ap, ◌∙◌}
+use mathlib.Core.Path.{◌≡◌, refl, sym, ap, ◌∙◌, subst}
 use mathlib.Core.List.{List}
 use lib.ListN.{length, get_or, set}
 use lib.Dec.{eqb, ltb}
@@ -113,11 +113,12 @@ stored_replaced ks vs (suc n) i k v a lk lv h w = go (ℕ_discrete i n) (stored_
         → stored (set ks i k) (set vs i v) n ≡ put (put (stored ks vs n) (get_or ks i 0) free) k (holds v))
         → stored (set ks i k) (set vs i v) (suc n) ≡ put (put (stored ks vs (suc n)) (get_or ks i 0) free) k (holds v)
     go (yes e) r =
-        rw (e, get_or-set_same ks n k 0 lk, get_or-set_same vs n v 0 lv, stored_frame ks vs n n k v (omega arith))
+        subst (λ (j : ℕ). stored (set ks j k) (set vs j v) (suc n) ≡ put (put (stored ks vs (suc n)) (get_or ks j 0) free) k (holds v)) (sym e)
+        (rw (get_or-set_same ks n k 0 lk, get_or-set_same vs n v 0 lv, stored_frame ks vs n n k v (omega arith))
         (ap (λ (f : Contents). put f k (holds v))
         (sym
         (put_put (stored ks vs n) (get_or ks n 0) (holds (get_or vs n 0)) free
-        ∙ put_self (stored ks vs n) (get_or ks n 0) free (stored_free ks vs n (get_or ks n 0) (last_without ks n h)))))
+        ∙ put_self (stored ks vs n) (get_or ks n 0) free (stored_free ks vs n (get_or ks n 0) (last_without ks n h))))))
     go (no g) r =
         rw (
           get_or-set_other ks i n k 0 (λ q. g (sym q)),
