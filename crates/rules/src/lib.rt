@@ -56,7 +56,7 @@ pub const END_DIGITS: usize = 4;
 pub const BALANCE_DIGITS: usize = 24;
 
 // What was tested.
-#[derive(Drop)]
+#[derive(Clone, Copy)]
 pub enum Attribute {
     Purity,
     Germination,
@@ -64,14 +64,14 @@ pub enum Attribute {
 }
 
 // A lot: its attribute's number (00 purity, 01 germination, 02 count) and N0, how many containers it has.
-#[derive(Drop)]
+#[derive(Clone, Copy)]
 pub struct Lot {
     pub attribute: u16,
     pub containers: u16,
 }
 
 // The head of a card: factor is F, offset is G, seeds is n.
-#[derive(Drop)]
+#[derive(Clone, Copy)]
 pub struct Head {
     pub factor: u16,
     pub offset: u16,
@@ -93,7 +93,7 @@ pub struct Card {
 }
 
 // The trade words of document 01's table and of document 02's points. Accepted: none applies.
-#[derive(Drop)]
+#[derive(Clone, Copy)]
 pub enum Refusal {
     Accepted,
     BadLine,
@@ -119,7 +119,7 @@ pub enum Refusal {
 }
 
 // The stages of a sheet: which frame was read last.
-#[derive(Drop)]
+#[derive(Clone, Copy)]
 pub enum Stage {
     Start,
     Lot,
@@ -131,7 +131,7 @@ pub enum Stage {
 }
 
 // What a line of a sheet says (document 01's term: a frame).
-#[derive(Drop)]
+#[derive(Clone, Copy)]
 pub enum Frame {
     Bad,
     Lot {
@@ -168,14 +168,14 @@ pub enum Frame {
 }
 
 // Both pans of a sample, in grams.
-#[derive(Drop)]
+#[derive(Clone, Copy)]
 pub struct Pans {
     pub component: f32,
     pub remainder: f32,
 }
 
 // What the balance says of one pan: an overload has no weight.
-#[derive(Drop)]
+#[derive(Clone, Copy)]
 pub enum Reading {
     Steady(f32),
     Unsteady(f32),
@@ -183,14 +183,14 @@ pub enum Reading {
 }
 
 // A weight in tenths of a milligram.
-#[derive(Drop)]
+#[derive(Clone, Copy)]
 pub enum Weight {
     Tenths(u32),
     Bad,
 }
 
 // X of a weighed sample in hundredths of a percent, or why there is none.
-#[derive(Drop)]
+#[derive(Clone, Copy)]
 pub enum Share {
     Hundredths(u16),
     NotSteady,
@@ -198,7 +198,7 @@ pub enum Share {
 }
 
 // N, S, Q, and the two ends of the range.
-#[derive(Drop)]
+#[derive(Clone, Copy)]
 pub struct Figures {
     pub count: u16,
     pub sum: u32,
@@ -208,7 +208,7 @@ pub struct Figures {
 }
 
 // The range of results: how many were read, and its two ends.
-#[derive(Drop)]
+#[derive(Clone, Copy)]
 pub struct Range {
     pub read: u16,
     pub smallest: u32,
@@ -216,21 +216,21 @@ pub struct Range {
 }
 
 // V/W: a fraction of two whole numbers.
-#[derive(Drop)]
+#[derive(Clone, Copy)]
 pub struct Fraction {
     pub over: u64,
     pub under: u64,
 }
 
 // What H or R is set against.
-#[derive(Drop)]
+#[derive(Clone, Copy)]
 pub enum Limit {
     Absent,
     At(u32),
 }
 
 // Undecided: without a limit.
-#[derive(Drop)]
+#[derive(Clone, Copy)]
 pub enum Verdict {
     Kept,
     Over,
@@ -238,7 +238,7 @@ pub enum Verdict {
 }
 
 // On which side of a printed number the exact one is. Unrounded: the number was not rounded, and has no mark.
-#[derive(Drop)]
+#[derive(Clone, Copy)]
 pub enum Side {
     Unrounded,
     Equal,
@@ -247,14 +247,14 @@ pub enum Side {
 }
 
 // What the rounding step gives: the nearest whole number, the larger of two equally near, and on which side of it the exact one is.
-#[derive(Drop)]
+#[derive(Clone, Copy)]
 pub struct Rounded {
     pub nearest: u64,
     pub side: Side,
 }
 
 // H or R as its line has it, with its decimal places and its side.
-#[derive(Drop)]
+#[derive(Clone, Copy)]
 pub struct Value {
     pub places: u8,
     pub value: u64,
@@ -265,7 +265,7 @@ pub struct Value {
 
 // What the five lines of a report say: N, the mean with its decimal places and its side, H and R, which a void lot has not, and the
 // lot's verdict.
-#[derive(Drop)]
+#[derive(Clone, Copy)]
 pub struct Findings {
     pub count: u16,
     pub places: u8,
@@ -279,21 +279,21 @@ pub struct Findings {
 
 // ---- answers: calls that give a number
 // The number of a refusal, 0 for none, and a value.
-#[derive(Drop)]
+#[derive(Clone, Copy)]
 pub struct Answered {
     pub number: u32,
     pub value: u32,
 }
 
 // The number of primary samples.
-#[derive(Drop)]
+#[derive(Clone, Copy)]
 pub enum Samples {
     Number(u32),
     OutsideTable,
 }
 
 // Whether two tests, or a label and a test, agree.
-#[derive(Drop)]
+#[derive(Clone, Copy)]
 pub enum Tolerance {
     Within,
     Out,
@@ -301,7 +301,7 @@ pub enum Tolerance {
 }
 
 // Whether component lots may be mixed.
-#[derive(Drop)]
+#[derive(Clone, Copy)]
 pub enum Mixing {
     Mixable,
     NotMixable,
@@ -311,14 +311,14 @@ pub enum Mixing {
 
 // ---- answers: calls that write a text
 // The number of a refusal, 0 for none, and the text's length.
-#[derive(Drop)]
+#[derive(Clone, Copy)]
 pub struct TextSize {
     pub number: u32,
     pub size: usize,
 }
 
 // A report's answer: the text's length, or a refusal.
-#[derive(Drop)]
+#[derive(Clone, Copy)]
 pub enum Reported {
     Length(usize),
     TooFew,
@@ -326,7 +326,7 @@ pub enum Reported {
 }
 
 // The sheet writer's answer.
-#[derive(Drop)]
+#[derive(Clone, Copy)]
 pub enum Written {
     Length(usize),
     BadLot,
@@ -334,7 +334,7 @@ pub enum Written {
 }
 
 // The answer of what prints for a sheet, and of the list writer.
-#[derive(Drop)]
+#[derive(Clone, Copy)]
 pub enum Printed {
     Length(usize),
     BufferShort,
@@ -342,7 +342,7 @@ pub enum Printed {
 
 // The answer of a call on a sheet: the length of the sheet after it; or a refusal, with the file (1 the sheet, 2 the list) and the line
 // of a fault in one of them, else 0 and 0.
-#[derive(Drop)]
+#[derive(Clone, Copy)]
 pub enum OnSheet {
     Length(usize),
     Refused(Refusal, u32, usize),
