@@ -13,7 +13,7 @@ pub returns-then-not-is_digit : goal.returns-then-not-is_digit
 returns-then-not-is_digit c =
     let at = c.loop-i in
     let s = c.args.sheet.now in
-    let stop = run_stop is_digit s at.i c.loop-i-test.true (sym c.is_digit.ensures ∙ not-true _ c.if-not-is_digit.true) in
+    let stop = run_stop is_digit s at.i c.loop-i-test.true (sym c.is_digit.ensures ∙ not-true _ c.if-not-is_digit.true-raw) in
     (omega (arith, at.invariant.1, stop), search rules)
 
 pub loop-i-preserved : goal.loop-i-preserved

@@ -10,14 +10,6 @@ use Rattle.rules.proofs.Tests.{and_left, and_right}
 use Rattle.cutter.proofs.Runs.{run_eights, run_more_eights}
 use Rattle.cutter.proofs.line_end.Goals as goal
 
--- the end byte is no digit
-behind : (c : tie.Then3) → let a = c.args in
-    is_digit (get_or a.sheet.now (a.at + c.likely_digits.result) 0) ≡ false
-behind c =
-    let a = c.args in
-    let end = a.at + c.likely_digits.result in
-    ap is_digit (eqb-true (get_or a.sheet.now end 0) 10 (and_right c.eight_digits-then-eight_digits.result _ c.if-eight_digits-sheet.true))
-
 pub returns-then-end-at : goal.returns-then-end-at
 returns-then-end-at c =
     let look = c in
@@ -25,9 +17,10 @@ returns-then-end-at c =
     let last = look.eight_digits-then-eight_digits in
     let a = first.args in
     let end = a.at + look.likely_digits.result in
+    let no_digit : is_digit (get_or a.sheet.now end 0) ≡ false = ap is_digit (eqb-true (get_or a.sheet.now end 0) 10 (and_right last.result _ c.if-eight_digits-sheet.true)) in
     let run =
     run_eights is_digit a.sheet.now a.at end (omega arith) (omega arith) (omega arith)
-    (sym first.eight_digits.ensures ∙ first.if-eight_digits.true) (sym last.ensures ∙ and_left last.result _ look.if-eight_digits-sheet.true) (behind look) in
+    (sym first.eight_digits.ensures ∙ first.if-eight_digits.true) (sym last.ensures ∙ and_left last.result _ look.if-eight_digits-sheet.true) no_digit in
     (run, omega arith)
 
 pub returns-then-eight_digits-2 : goal.returns-then-eight_digits-2
@@ -37,8 +30,9 @@ returns-then-eight_digits-2 c =
     let last = look.eight_digits-then-eight_digits in
     let a = first.args in
     let end = a.at + look.likely_digits.result in
+    let no_digit : is_digit (get_or a.sheet.now end 0) ≡ false = ap is_digit (eqb-true (get_or a.sheet.now end 0) 10 (and_right last.result _ c.if-eight_digits-sheet.true)) in
     let run =
     run_more_eights is_digit a.sheet.now a.at end (omega arith) (omega arith) (omega arith)
     (sym first.eight_digits.ensures ∙ first.if-eight_digits.true) (sym c.eight_digits-then-eight_digits-sheet.ensures ∙ c.if-eight_digits-2.true)
-    (sym last.ensures ∙ and_left last.result _ look.if-eight_digits-sheet.true) (behind look) in
+    (sym last.ensures ∙ and_left last.result _ look.if-eight_digits-sheet.true) no_digit in
     (run, omega arith)

@@ -15,7 +15,7 @@ pub returns-then-not-is_decimal : goal.returns-then-not-is_decimal
 returns-then-not-is_decimal c =
     let at = c in
     word_other _ at.loop-i.invariant.0
-    (at.loop-i.invariant.1.1.0 ∙ decimal_no _ _ at.loop-i-test.true (sym c.is_decimal.ensures ∙ not-true _ c.if-not-is_decimal.true))
+    (at.loop-i.invariant.1.1.0 ∙ decimal_no _ _ at.loop-i-test.true (sym c.is_decimal.ensures ∙ not-true _ c.if-not-is_decimal.true-raw))
 
 pub loop-i-preserved : goal.loop-i-preserved
 loop-i-preserved c =
