@@ -81,7 +81,7 @@ pub struct Head {
 // A card (document 01's term): the numbers that a lot is judged by. critical has at N one more than the critical H for N results, and
 // 0 where there is none.
 // The range rows fill four lists; places past the last row count for nothing.
-#[derive(Drop)]
+#[derive(Clone, Copy)]
 pub struct Card {
     pub head: Head,
     pub critical: [u32; CRITICALS],
