@@ -1,0 +1,16 @@
+-- `report_size::value_size` meets its contract. Assumes nothing.
+use mathlib.Core.Path.{refl}
+use native.Mathlib.Omega.{arith}
+use Rattle.rules.specs.Report.{value_line}
+use Rattle.report_size.proofs.Lengths.{value_length}
+use Rattle.report_size.proofs.value_size.Goals as goal
+
+pub returns-then-void : goal.returns-then-void
+unfolding value_line
+returns-then-void c = rw c.if-void.true (refl, omega arith)
+
+pub returns : goal.returns
+returns c =
+    let mark = c in
+    rw mark.if-void.false
+    (rw (mark.number_size.ensures.0, mark.mark_size.ensures.0, c.limit_size.ensures.0) (value_length _), omega arith)
