@@ -1,5 +1,5 @@
--- `tolerance_tables::difference_for` meets its contract: as the tops rise, the rows with a top below the average stand before all others.
-use Prim.Native.Nat.{◌-◌}
+use Rattle.std.proofs.Common.{◌-◌}
+use Rattle.tolerance_tables.proofs.Counting.{Counted}
 use Rattle.tolerance_tables.proofs.difference_for.Given as goal
 
 abbrev pub invariant-loop-i : goal.invariant-loop-i

@@ -1,0 +1,21 @@
+-- `refusal_lines::refused_line` meets its contract.
+use Rattle.rules.specs.Printing.{refused_line}
+use Rattle.decimal.proofs.LayingLaws.{piece, then_piece, a_line}
+use Rattle.refusal_lines.proofs.refused_line.Goals as goal
+
+pub returns : goal.returns
+unfolding refused_line
+returns c =
+    let p₅ = c.bytes in
+    let c₄ = c in
+    let p₄ = c₄.number-d in
+    let c₃ = c₄ in
+    let p₃ = c₃.bytes-c in
+    let c₂ = c₃ in
+    let p₂ = c₂.number-b in
+    let p₁ = c₂.bytes-a in
+    let first = piece _ _ _ _ _ p₁.ensures p₁.auto.buf in
+    let second = then_piece _ _ _ _ _ _ _ _ first p₂.ensures p₂.auto.buf in
+    let third = then_piece _ _ _ _ _ _ _ _ second p₃.ensures p₃.auto.buf in
+    let fourth = then_piece _ _ _ _ _ _ _ _ third p₄.ensures p₄.auto.buf in
+    a_line _ _ _ _ (then_piece _ _ _ _ _ _ _ _ fourth p₅.ensures p₅.auto.buf)
