@@ -1,4 +1,4 @@
-/* The judging calls of Gelvorin, for a program in C. Link with target/staticlib/libhost.a, which `rt staticlib host` writes.
+/* The judging calls of Gelvorin, for a program in C. Link with crates/host/out/libhost.a, which `rt lib` in crates/host writes.
  *
  * Whatever the numbers and whatever the bytes of its lists, a call ends, and answers a value or a refusal; none relies on its caller
  * having looked first. Each answers one number: the value, which is below GELVORIN_REFUSED, or GELVORIN_REFUSED and the number of the

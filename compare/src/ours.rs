@@ -1,5 +1,5 @@
-//! The proved library, target/staticlib/libhost.a, behind safe wrappers; host/gelvorin.h says what
-//! each function answers. `gelvorin_calls` is of target/staticlib/liblists.a; calls.rs says what it answers.
+//! The proved library, crates/host/out/libhost.a, behind safe wrappers; host/gelvorin.h says what
+//! each function answers. `gelvorin_calls` is of crates/lists/out/liblists.a; calls.rs says what it answers.
 //!
 //! None of them asks anything of its caller but that a pointer and the length behind it are those of
 //! a slice, which the wrappers see to.
