@@ -2,8 +2,9 @@
 // bytes it put at the front of the buffer.
 #![tactic(auto)]
 
-ghost use Rattle.std.specs.Prelude.{◌≡◌, length};
+ghost use Rattle.std.specs.Prelude.{◌≡◌, ◌<◌, length, take, IfOk};
 ghost use Rattle.std.specs.Io.{ReadsAtMost};
+ghost use Rattle.std.specs.Io.KnownBytes.{Consumes, IsAtEnd};
 ghost use Rattle.buffers.specs.Counts.{IsPrefixLen};
 
 use std::env::{Env, FillError};
@@ -25,9 +26,12 @@ pub fn large() -> [u8; 65536]
     [0; 65536]
 }
 
-// Reads until the buffer is full or the input ends.
-pub fn read_full(from: &mut impl Read, buffer: &mut [u8]) -> io::Result<usize>
-    ensures { ReadsAtMost result buffer.new }
+// Reads until the buffer is full or the input ends. Of an input whose bytes are known: the buffer has those that it had left, and where
+// they do not fill the buffer, none is left.
+pub fn read_full<R: Read>(from: &mut R, buffer: &mut [u8]) -> io::Result<usize>
+    ensures bound { ReadsAtMost result buffer.new }
+    ensures bytes { IfOk result (λ n. Consumes (R.remaining from.old) (R.remaining from.new) (take n buffer.new)) }
+    ensures end { IfOk result (λ n. n < length buffer.new → IsAtEnd (R.remaining from.new)) }
 {
     let mut done = 0;
     while done < buffer.len() {
