@@ -1,6 +1,6 @@
 // A line of a text: a word, and the numbers behind it, with single blanks between them. Of a list, the words behind its first number.
 ghost use Rattle.std.specs.Prelude.{◌≤◌, ◌<◌, length};
-ghost use Rattle.io.specs.Counts.{IsPrefixLen};
+ghost use Rattle.buffers.specs.Counts.{IsPrefixLen};
 
 use decimal_words::Word;
 

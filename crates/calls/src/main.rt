@@ -15,23 +15,24 @@ mod tallies;
 
 use lines::MOST_NUMBERS;
 use rules::Refusal;
+use std::io;
 use tally::{Outcome, Tally};
 
 // A call that changes a tally.
 fn changed(name: &[u8], t: Tally, other: Tally, numbers: &[u32; MOST_NUMBERS]) -> Outcome {
-    if check::same(name, b"open") {
+    if name == b"open".as_slice() {
         return tallies::open(t, numbers);
     }
-    if check::same(name, b"enter") {
+    if name == b"enter".as_slice() {
         return tallies::enter(t, numbers);
     }
-    if check::same(name, b"weigh") {
+    if name == b"weigh".as_slice() {
         return tallies::weigh(t, numbers);
     }
-    if check::same(name, b"withdraw") {
+    if name == b"withdraw".as_slice() {
         return tallies::withdraw(t, numbers);
     }
-    if check::same(name, b"join") {
+    if name == b"join".as_slice() {
         return tally::join(t, other);
     }
     Outcome {
@@ -41,62 +42,68 @@ fn changed(name: &[u8], t: Tally, other: Tally, numbers: &[u32; MOST_NUMBERS]) -
 }
 
 // A call beside the tally is made, and any other is not.
-fn beside_made(name: &[u8], numbers: &[u32; MOST_NUMBERS], count: usize) -> bool {
-    if check::same(name, b"sampling") {
-        beside::sampling(numbers);
-        return true;
+fn beside_made(
+    rt: &impl Print,
+    name: &[u8],
+    numbers: &[u32; MOST_NUMBERS],
+    count: usize,
+) -> io::Result<bool> {
+    if name == b"sampling".as_slice() {
+        beside::sampling(rt, numbers)?;
+        return Ok(true);
     }
-    if check::same(name, b"label") {
-        beside::label(numbers);
-        return true;
+    if name == b"label".as_slice() {
+        beside::label(rt, numbers)?;
+        return Ok(true);
     }
-    if check::same(name, b"pair") {
-        beside::pair(numbers);
-        return true;
+    if name == b"pair".as_slice() {
+        beside::pair(rt, numbers)?;
+        return Ok(true);
     }
-    if check::same(name, b"mixing") {
-        beside::mixing(numbers, count);
-        return true;
+    if name == b"mixing".as_slice() {
+        beside::mixing(rt, numbers, count)?;
+        return Ok(true);
     }
-    false
+    Ok(false)
 }
 
 // A call that only reads a tally is made, and any other is not.
-fn reading_made(name: &[u8], t: Tally) -> bool {
-    if check::same(name, b"report") {
-        tallies::report(t);
-        return true;
+fn reading_made(rt: &impl Print, name: &[u8], t: Tally) -> io::Result<bool> {
+    if name == b"report".as_slice() {
+        tallies::report(rt, t)?;
+        return Ok(true);
     }
-    if check::same(name, b"write") {
-        tallies::write(t);
-        return true;
+    if name == b"write".as_slice() {
+        tallies::write(rt, t)?;
+        return Ok(true);
     }
-    if check::same(name, b"writelist") {
-        tallies::write_list(t);
-        return true;
+    if name == b"writelist".as_slice() {
+        tallies::write_list(rt, t)?;
+        return Ok(true);
     }
-    false
+    Ok(false)
 }
 
 // The tally after a call on it.
 fn after(
+    rt: &impl Print,
     name: &[u8],
     words: &[u8],
     t: Tally,
     other: Tally,
     numbers: &[u32; MOST_NUMBERS],
-) -> Tally {
-    if reading_made(name, t) {
-        return t;
+) -> io::Result<Tally> {
+    if reading_made(rt, name, t)? {
+        return Ok(t);
     }
-    if check::same(name, b"list") {
-        return tallies::list(t, words);
+    if name == b"list".as_slice() {
+        return tallies::list(rt, t, words);
     }
     let outcome = changed(name, t, other, numbers);
     let refusal = outcome.refusal;
     let next = outcome.tally;
-    print::held(refusal.number(), next.held);
-    next
+    print::held(rt, refusal.number(), next.held)?;
+    Ok(next)
 }
 
 #[derive(Drop)]
@@ -107,26 +114,27 @@ struct BothTallies {
 
 // Both tallies after a line's call; the words are those behind the name, each with the blank before it.
 fn step(
+    rt: &impl Print,
     name: &[u8],
     words: &[u8],
     both: BothTallies,
     numbers: &[u32; MOST_NUMBERS],
     count: usize,
-) -> BothTallies {
-    if beside_made(name, numbers, count) {
-        return both;
+) -> io::Result<BothTallies> {
+    if beside_made(rt, name, numbers, count)? {
+        return Ok(both);
     }
     let one = both.one;
     let two = both.two;
     if numbers[0] == 2 {
-        let next = after(name, words, two, one, numbers);
-        return BothTallies { one, two: next };
+        let next = after(rt, name, words, two, one, numbers)?;
+        return Ok(BothTallies { one, two: next });
     }
-    let next = after(name, words, one, two, numbers);
-    BothTallies { one: next, two }
+    let next = after(rt, name, words, one, two, numbers)?;
+    Ok(BothTallies { one: next, two })
 }
 
-fn run(text: &[u8]) {
+fn run(rt: &impl Print, text: &[u8]) -> io::Result<()> {
     let mut both = BothTallies {
         one: tally::fresh(),
         two: tally::fresh(),
@@ -138,13 +146,21 @@ fn run(text: &[u8]) {
         let end = line.end;
         let last = line.last;
         let next = last + 1;
-        both = step(&text[at..end], &text[end..last], both, &numbers, line.count);
+        both = step(
+            rt,
+            &text[at..end],
+            &text[end..last],
+            both,
+            &numbers,
+            line.count,
+        )?;
         at = next;
     }
+    Ok(())
 }
 
-fn main() {
-    let mut text = io::large_buffer();
-    let n = io::read_full(libc::STDIN_FILENO, &mut text);
-    run(&text[..n]);
+fn main(rt: HostRuntime) -> io::Result<()> {
+    let mut text = buffers::large();
+    let n = buffers::read_full(&mut rt.stdin(), &mut text)?;
+    run(&rt, &text[..n])
 }

@@ -2,6 +2,7 @@
 use crate::lines::MOST_NUMBERS;
 use crate::{lines, print};
 use rules::{CRITICALS, Card, Head, Lot, MOST_ROWS, Pans, WIDEST};
+use std::io;
 use tally::{Outcome, Tally};
 
 // The number as 16 bits; a larger one as the largest.
@@ -68,34 +69,34 @@ pub fn withdraw(t: Tally, numbers: &[u32; MOST_NUMBERS]) -> Outcome {
 }
 
 // list TALLY WORD WORD ..: its lines are entered. The words are those behind the name, the tally's number among them.
-pub fn list(t: Tally, words: &[u8]) -> Tally {
-    let mut list = io::buffer();
+pub fn list(rt: &impl Print, t: Tally, words: &[u8]) -> io::Result<Tally> {
+    let mut list = buffers::small();
     let start = lines::behind_first(words);
     let n = lines::lay_list(&words[start..], &mut list);
     let outcome = list_reader::read_list(t, &list[..n]);
     let refusal = outcome.refusal;
     let next = outcome.tally;
-    print::listed(refusal.number(), outcome.line, next.held);
-    next
+    print::listed(rt, refusal.number(), outcome.line, next.held)?;
+    Ok(next)
 }
 
 // writelist TALLY: its results as a comma list, or the refusal.
-pub fn write_list(t: Tally) {
-    let mut buf = io::buffer();
+pub fn write_list(rt: &impl Print, t: Tally) -> io::Result<()> {
+    let mut buf = buffers::small();
     let text = answers::printed_size(list_writer::write_list(t, &mut buf));
-    print::text(&buf, text);
+    print::text(rt, &buf, text)
 }
 
 // report TALLY: its text, or the refusal.
-pub fn report(t: Tally) {
-    let mut buf = io::buffer();
+pub fn report(rt: &impl Print, t: Tally) -> io::Result<()> {
+    let mut buf = buffers::small();
     let text = answers::reported_size(report::report(t, &mut buf));
-    print::text(&buf, text);
+    print::text(rt, &buf, text)
 }
 
 // write TALLY: its sheet, or the refusal.
-pub fn write(t: Tally) {
-    let mut buf = io::buffer();
+pub fn write(rt: &impl Print, t: Tally) -> io::Result<()> {
+    let mut buf = buffers::small();
     let text = answers::written_size(writer::write(t, &mut buf));
-    print::text(&buf, text);
+    print::text(rt, &buf, text)
 }

@@ -2,6 +2,7 @@
 use crate::{files, texts};
 use rules::{OnSheet, Printed};
 use sheet::Answer;
+use std::rt::Files;
 
 // The list of a sheet's results, or the line of its first fault.
 fn list_of(sheet: &[u8], buf: &mut [u8]) -> Printed {
@@ -34,23 +35,23 @@ fn entered_as(sheet: &[u8], list: &[u8], expected: &[u8], buf: &mut [u8]) -> boo
 }
 
 // Whether the results of sheet n of a group are written as its text says.
-pub fn written(group: u8, n: usize) -> bool {
-    let mut sheet = io::buffer();
-    let mut expected = io::buffer();
-    let mut buf = io::buffer();
-    let s = files::read_sheet(group, n, &mut sheet);
-    let e = files::read_text(group, n, &mut expected);
+pub fn written(rt: &impl Files, group: u8, n: usize) -> bool {
+    let mut sheet = buffers::small();
+    let mut expected = buffers::small();
+    let mut buf = buffers::small();
+    let s = files::read_sheet(rt, group, n, &mut sheet);
+    let e = files::read_text(rt, group, n, &mut expected);
     written_as(&sheet[..s], &expected[..e], &mut buf)
 }
 
 // Whether sheet n of a group has its list entered as its text says.
-pub fn entered(group: u8, n: usize) -> bool {
-    let mut sheet = io::buffer();
-    let mut list = io::buffer();
-    let mut expected = io::buffer();
-    let mut buf = io::buffer();
-    let s = files::read_sheet(group, n, &mut sheet);
-    let l = files::read_list(group, n, &mut list);
-    let e = files::read_text(group, n, &mut expected);
+pub fn entered(rt: &impl Files, group: u8, n: usize) -> bool {
+    let mut sheet = buffers::small();
+    let mut list = buffers::small();
+    let mut expected = buffers::small();
+    let mut buf = buffers::small();
+    let s = files::read_sheet(rt, group, n, &mut sheet);
+    let l = files::read_list(rt, group, n, &mut list);
+    let e = files::read_text(rt, group, n, &mut expected);
     entered_as(&sheet[..s], &list[..l], &expected[..e], &mut buf)
 }

@@ -1,5 +1,7 @@
 // The files of a case, by the letter of its group and its number: v007.sheet, v007.list, and v007.out with the expected text.
-ghost use Rattle.io.specs.Counts.{IsPrefixLen};
+ghost use Rattle.buffers.specs.Counts.{IsPrefixLen};
+
+use std::rt::Files;
 
 fn digit(n: usize) -> u8 {
     (48 + n % 10) as u8
@@ -48,32 +50,29 @@ fn text_name(group: u8, n: usize) -> [u8; 8] {
 }
 
 // The bytes of a file, as many as fit; none where it cannot be read.
-fn read(name: &[u8], into: &mut [u8]) -> usize
+fn read(rt: &impl Files, name: &[u8], into: &mut [u8]) -> usize
     ensures { IsPrefixLen result into.new }
 {
-    let fd = os::open_read(name);
-    let n = io::read_full(fd, into);
-    libc::close(fd);
-    n
+    buffers::read_file(rt, name, into)
 }
 
-pub fn read_sheet(group: u8, n: usize, into: &mut [u8]) -> usize
+pub fn read_sheet(rt: &impl Files, group: u8, n: usize, into: &mut [u8]) -> usize
     ensures { IsPrefixLen result into.new }
 {
     let name = sheet_name(group, n);
-    read(&name, into)
+    read(rt, &name, into)
 }
 
-pub fn read_list(group: u8, n: usize, into: &mut [u8]) -> usize
+pub fn read_list(rt: &impl Files, group: u8, n: usize, into: &mut [u8]) -> usize
     ensures { IsPrefixLen result into.new }
 {
     let name = list_name(group, n);
-    read(&name, into)
+    read(rt, &name, into)
 }
 
-pub fn read_text(group: u8, n: usize, into: &mut [u8]) -> usize
+pub fn read_text(rt: &impl Files, group: u8, n: usize, into: &mut [u8]) -> usize
     ensures { IsPrefixLen result into.new }
 {
     let name = text_name(group, n);
-    read(&name, into)
+    read(rt, &name, into)
 }

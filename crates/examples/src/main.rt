@@ -7,7 +7,8 @@ mod files;
 mod sheets;
 mod texts;
 
-use libc::STDOUT_FILENO;
+use std::io;
+use std::rt::Files;
 
 // How many cases there were, and how many came out as they should.
 #[derive(Drop)]
@@ -17,12 +18,10 @@ struct Tried {
 }
 
 // Prints a group's line.
-fn print_group(name: &[u8], t: Tried) {
-    io::write_all(STDOUT_FILENO, name);
-    io::print_decimal(STDOUT_FILENO, t.right as u64);
-    io::write_all(STDOUT_FILENO, b" of ");
-    io::print_decimal(STDOUT_FILENO, t.all as u64);
-    io::write_all(STDOUT_FILENO, b"\n");
+fn print_group(rt: &impl Print, name: &str, t: Tried) -> io::Result<()> {
+    let right = t.right;
+    let all = t.all;
+    println!(rt; "{name}{right} of {all}")
 }
 
 fn together(a: Tried, b: Tried) -> Tried {
@@ -38,20 +37,20 @@ const ENTERED: u8 = b'e';
 const WRITTEN: u8 = b'l';
 
 // Whether case n of a group comes out as its text says.
-fn agrees(name: u8, n: usize) -> bool {
+fn agrees(rt: &impl Files, name: u8, n: usize) -> bool {
     match name {
-        ENTERED => comma_lists::entered(name, n),
-        WRITTEN => comma_lists::written(name, n),
-        _ => sheets::judged(name, n),
+        ENTERED => comma_lists::entered(rt, name, n),
+        WRITTEN => comma_lists::written(rt, name, n),
+        _ => sheets::judged(rt, name, n),
     }
 }
 
-fn group(name: u8, count: usize) -> Tried {
+fn group(rt: &impl Files, name: u8, count: usize) -> Tried {
     let mut right: u32 = 0;
     let mut all: u32 = 0;
     let mut n = 0;
     while n < count {
-        if agrees(name, n) {
+        if agrees(rt, name, n) {
             right = std::num::wrapping_add_u32(right, 1);
         }
         all = std::num::wrapping_add_u32(all, 1);
@@ -60,18 +59,18 @@ fn group(name: u8, count: usize) -> Tried {
     Tried { right, all }
 }
 
-fn main() {
-    let handbook = group(b'h', 4);
-    print_group(b"sheets of the handbook (002, 10.2): ", handbook);
-    let misleading = group(b'm', 9);
-    print_group(b"sheets that mislead: ", misleading);
-    let vectors = group(b'v', 220);
-    print_group(b"sheets of the vectors: ", vectors);
-    let entered = group(ENTERED, 120);
-    print_group(b"lists of the vectors entered: ", entered);
-    let written = group(WRITTEN, 40);
-    print_group(b"lists of the vectors written: ", written);
+fn main(rt: HostRuntime) -> io::Result<()> {
+    let handbook = group(&rt, b'h', 4);
+    print_group(&rt, "sheets of the handbook (002, 10.2): ", handbook)?;
+    let misleading = group(&rt, b'm', 9);
+    print_group(&rt, "sheets that mislead: ", misleading)?;
+    let vectors = group(&rt, b'v', 220);
+    print_group(&rt, "sheets of the vectors: ", vectors)?;
+    let entered = group(&rt, ENTERED, 120);
+    print_group(&rt, "lists of the vectors entered: ", entered)?;
+    let written = group(&rt, WRITTEN, 40);
+    print_group(&rt, "lists of the vectors written: ", written)?;
     let sheets = together(together(handbook, misleading), vectors);
     let all = together(sheets, together(entered, written));
-    print_group(b"all: ", all);
+    print_group(&rt, "all: ", all)
 }

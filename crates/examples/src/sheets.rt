@@ -1,5 +1,6 @@
 // Sheets from files, each held against what lotreport must print for it.
 use crate::{files, texts};
+use std::rt::Files;
 
 // The bytes that lotreport reads.
 const READ: usize = 4096;
@@ -17,11 +18,11 @@ fn decided_as(sheet: &[u8], expected: &[u8], buf: &mut [u8]) -> bool {
 }
 
 // Whether sheet n of a group is judged as its text says.
-pub fn judged(group: u8, n: usize) -> bool {
-    let mut sheet = io::large_buffer();
-    let mut expected = io::buffer();
-    let mut buf = io::buffer();
-    let s = files::read_sheet(group, n, &mut sheet);
-    let e = files::read_text(group, n, &mut expected);
+pub fn judged(rt: &impl Files, group: u8, n: usize) -> bool {
+    let mut sheet = buffers::large();
+    let mut expected = buffers::small();
+    let mut buf = buffers::small();
+    let s = files::read_sheet(rt, group, n, &mut sheet);
+    let e = files::read_text(rt, group, n, &mut expected);
     decided_as(&sheet[..s], &expected[..e], &mut buf)
 }

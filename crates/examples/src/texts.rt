@@ -4,7 +4,7 @@ use rules::Printed;
 // Whether the first n bytes of a buffer are a text.
 pub fn begins(buf: &[u8], n: usize, text: &[u8]) -> bool {
     if n <= buf.len() {
-        return check::same(&buf[0..n], text);
+        return &buf[0..n] == text;
     }
     false
 }

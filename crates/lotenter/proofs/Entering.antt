@@ -22,8 +22,8 @@ use Rattle.rules.specs.declared.Printed.{Printed}
 use Rattle.rules.specs.declared.Refusal.{Refusal}
 use Rattle.rules.specs.declared.TextSize.{TextSize}
 use Rattle.rules.proofs.TextLaws.{length_decimal}
-use Rattle.io.specs.Counts.{IsPrefixLen}
-use Rattle.io.proofs.Counting.{prefix_len_of_le}
+use Rattle.buffers.specs.Counts.{IsPrefixLen}
+use Rattle.buffers.proofs.Counting.{prefix_len_of_le}
 use Rattle.decimal.specs.Laying.{LaysAt}
 use Rattle.program_input.proofs.Texts.{laid_text}
 use Rattle.lotenter.specs.Entering.{usage_line, text_of, Shows}

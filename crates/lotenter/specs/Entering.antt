@@ -5,7 +5,7 @@ use Rattle.rules.specs.Text.{text}
 use Rattle.rules.specs.Reading.{SheetOutcome, accepted, refused, read_of}
 use Rattle.rules.specs.ListReading.{list_on}
 use Rattle.rules.specs.Printing.{entered, ended_lines}
-use Rattle.io.specs.Counts.{IsPrefixLen}
+use Rattle.buffers.specs.Counts.{IsPrefixLen}
 
 -- of a buffer in which n bytes of a list were read, these are entered: all of them, or, where they fill it, the lines that end among them
 abbrev pub entered_part : List ℕ → ℕ → List ℕ

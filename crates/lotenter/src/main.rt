@@ -5,14 +5,15 @@
 ghost use Rattle.std.specs.Prelude.{◌≡◌, List, ℕ, ◌≤◌, length, take};
 ghost use Rattle.rules.specs.Limits.{list_places};
 ghost use Rattle.rules.specs.Printing.{ended_bytes, enter_prints};
-ghost use Rattle.io.specs.Counts.{IsPrefixLen};
+ghost use Rattle.buffers.specs.Counts.{IsPrefixLen};
 ghost use Rattle.program_input.specs.Input.{BeginsWith};
 ghost use Rattle.lotenter.specs.Entering.{entered_part, ShowsEntered};
 
-use libc::STDOUT_FILENO;
 use program_input::SHEET;
 use program_words::WORD;
 use rules::OnSheet;
+use std::io;
+use std::rt::{Env, Files};
 
 // Places for the list: of one that fills them the lines that end among them are entered.
 const LIST: usize = 65536;
@@ -81,23 +82,20 @@ fn answer(
 }
 
 // The bytes of the file that the word with this place names, as many as fit; none where it is not named or cannot be read.
-fn read_file(place: usize, into: &mut [u8]) -> usize
+fn read_file(rt: &(impl Env + Files), place: usize, into: &mut [u8]) -> usize
     ensures { IsPrefixLen result into.new }
 {
     let mut name = program_words::word_buffer();
-    let n = os::arg(place, &mut name);
-    let fd = os::open_read(&name[..n]);
-    let read = io::read_full(fd, into);
-    libc::close(fd);
-    read
+    let n = buffers::word(rt, place, &mut name);
+    buffers::read_file(rt, &name[..n], into)
 }
 
-fn main() {
-    let mut sheet = io::buffer();
-    let mut list = io::large_buffer();
-    let mut text = io::buffer();
-    let m = read_file(1, &mut sheet);
-    let n = read_file(2, &mut list);
+fn main(rt: HostRuntime) -> io::Result<()> {
+    let mut sheet = buffers::small();
+    let mut list = buffers::large();
+    let mut text = buffers::small();
+    let m = read_file(&rt, 1, &mut sheet);
+    let n = read_file(&rt, 2, &mut list);
     let size = answer(&sheet, m, &list, n, &mut text);
-    io::write_all(STDOUT_FILENO, &text[..size]);
+    rt.write_all(&text[..size])
 }

@@ -5,14 +5,14 @@ ghost use Rattle.std.specs.Prelude.{◌≡◌, List, ℕ, ◌≤◌, length};
 ghost use Rattle.rules.specs.Numbers.{printed_answer};
 ghost use Rattle.rules.specs.Text.{laid_in};
 ghost use Rattle.rules.specs.Printing.{listed_for};
-ghost use Rattle.io.specs.Counts.{IsPrefixLen};
+ghost use Rattle.buffers.specs.Counts.{IsPrefixLen};
 ghost use Rattle.decimal.specs.Laying.{Laid};
 ghost use Rattle.program_input.specs.Input.{BeginsWith};
 
-use libc::{STDIN_FILENO, STDOUT_FILENO};
 use program_input::SHEET;
 use rules::Printed;
 use sheet::Answer;
+use std::io;
 
 // Places for the text: none that is printed is longer. A list has at most 60 lines of 13 bytes.
 const TEXT: usize = 1024;
@@ -40,10 +40,10 @@ fn answer(sheet: &[u8; SHEET], read: usize, text: &mut [u8; TEXT]) -> usize
     answers::printed_size(printed).size
 }
 
-fn main() {
+fn main(rt: HostRuntime) -> io::Result<()> {
     let mut sheet = [0u8; SHEET];
     let mut text = [0u8; TEXT];
-    let read = io::read_full(STDIN_FILENO, &mut sheet);
+    let read = buffers::read_full(&mut rt.stdin(), &mut sheet)?;
     let size = answer(&sheet, read, &mut text);
-    io::write_all(STDOUT_FILENO, &text[..size]);
+    rt.write_all(&text[..size])
 }

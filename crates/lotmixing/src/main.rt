@@ -2,7 +2,7 @@
 #![tactic(auto)]
 
 ghost use Rattle.std.specs.Prelude.{◌≡◌, List, [], ℕ, ◌-◌, take};
-ghost use Rattle.io.specs.Counts.{IsPrefixLen};
+ghost use Rattle.buffers.specs.Counts.{IsPrefixLen};
 ghost use Rattle.decimal.specs.Laying.{Laid};
 ghost use Rattle.program_words.specs.Given.{GivenAs};
 ghost use Rattle.program_lines.specs.Printing.{said_to_mixing, mixing_prints};
@@ -12,6 +12,8 @@ use decimal_words::Word;
 use program_lines::LINE;
 use program_words::{Said, WORD};
 use rules::MOST_MIXED;
+use std::io;
+use std::rt::Env;
 
 // Numbers that are kept: the tolerated R, and one result more than may be mixed.
 const KEPT: usize = MOST_MIXED + 2;
@@ -96,29 +98,29 @@ fn answer(listed: Listed, line: &mut [u8; LINE]) -> usize
 }
 
 // The words so far and argument i.
-fn with_argument(listed: Listed, i: usize) -> Listed
+fn with_argument(rt: &impl Env, listed: Listed, i: usize) -> Listed
     ensures { OneMore listed result }
 {
     let mut buffer = program_words::word_buffer();
-    let n = os::arg(i, &mut buffer);
+    let n = buffers::word(rt, i, &mut buffer);
     with_word(listed, &buffer, n)
 }
 
 // All arguments, of which there are `arguments` with the program's own name.
-fn read_words(arguments: usize) -> Listed
+fn read_words(rt: &impl Env, arguments: usize) -> Listed
     ensures { ReadOf (arguments - 1) result }
 {
     let mut all = empty();
     let mut i = 1;
     while i < arguments {
-        all = with_argument(all, i);
+        all = with_argument(rt, all, i);
         i += 1;
     }
     all
 }
 
-fn main() {
+fn main(rt: HostRuntime) -> io::Result<()> {
     let mut line = [0u8; LINE];
-    let n = answer(read_words(os::arg_count()), &mut line);
-    io::write_all(libc::STDOUT_FILENO, &line[..n]);
+    let n = answer(read_words(&rt, buffers::word_count(&rt)), &mut line);
+    rt.write_all(&line[..n])
 }

@@ -3,12 +3,12 @@
 
 ghost use Rattle.std.specs.Prelude.{List, ℕ};
 ghost use Rattle.rules.specs.Printing.{printed_for};
-ghost use Rattle.io.specs.Counts.{IsPrefixLen};
+ghost use Rattle.buffers.specs.Counts.{IsPrefixLen};
 ghost use Rattle.decimal.specs.Laying.{Laid};
 ghost use Rattle.program_input.specs.Input.{BeginsWith};
 
-use libc::{STDIN_FILENO, STDOUT_FILENO};
 use program_input::SHEET;
+use std::io;
 
 // Places for the text: none that is printed is longer.
 const TEXT: usize = 256;
@@ -22,10 +22,10 @@ fn answer(sheet: &[u8; SHEET], read: usize, text: &mut [u8; TEXT]) -> usize
     answers::printed_size(printed).size
 }
 
-fn main() {
+fn main(rt: HostRuntime) -> io::Result<()> {
     let mut sheet = [0u8; SHEET];
     let mut text = [0u8; TEXT];
-    let read = io::read_full(STDIN_FILENO, &mut sheet);
+    let read = buffers::read_full(&mut rt.stdin(), &mut sheet)?;
     let size = answer(&sheet, read, &mut text);
-    io::write_all(STDOUT_FILENO, &text[..size]);
+    rt.write_all(&text[..size])
 }

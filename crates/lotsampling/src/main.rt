@@ -2,7 +2,7 @@
 #![tactic(auto)]
 
 ghost use Rattle.std.specs.Prelude.{◌≡◌, List, ℕ};
-ghost use Rattle.io.specs.Counts.{IsPrefixLen};
+ghost use Rattle.buffers.specs.Counts.{IsPrefixLen};
 ghost use Rattle.decimal.specs.Laying.{Laid};
 ghost use Rattle.program_words.specs.Given.{GivenAs};
 ghost use Rattle.program_words.specs.Saying.{said_to_two};
@@ -10,6 +10,7 @@ ghost use Rattle.program_lines.specs.Printing.{said_to_sampling, sampling_prints
 
 use program_lines::LINE;
 use program_words::{Said, TwoNumbers, WORD};
+use std::io;
 
 // What is said to the words.
 fn said_to(words: TwoNumbers) -> Said
@@ -39,12 +40,19 @@ fn answer(
     program_lines::number_line(said, b"usage: lotsampling CONTAINERS KILOGRAMS", line)
 }
 
-fn main() {
+fn main(rt: HostRuntime) -> io::Result<()> {
     let mut containers = program_words::word_buffer();
     let mut kilograms = program_words::word_buffer();
     let mut line = [0u8; LINE];
-    let k = os::arg(1, &mut containers);
-    let c = os::arg(2, &mut kilograms);
-    let n = answer(os::arg_count(), &containers, k, &kilograms, c, &mut line);
-    io::write_all(libc::STDOUT_FILENO, &line[..n]);
+    let k = buffers::word(&rt, 1, &mut containers);
+    let c = buffers::word(&rt, 2, &mut kilograms);
+    let n = answer(
+        buffers::word_count(&rt),
+        &containers,
+        k,
+        &kilograms,
+        c,
+        &mut line,
+    );
+    rt.write_all(&line[..n])
 }

@@ -2,7 +2,7 @@
 #![tactic(auto)]
 
 ghost use Rattle.std.specs.Prelude.{◌≡◌, List, ℕ};
-ghost use Rattle.io.specs.Counts.{IsPrefixLen};
+ghost use Rattle.buffers.specs.Counts.{IsPrefixLen};
 ghost use Rattle.decimal.specs.Laying.{Laid};
 ghost use Rattle.program_words.specs.Given.{GivenAs};
 ghost use Rattle.program_words.specs.Saying.{said_to_two};
@@ -10,15 +10,16 @@ ghost use Rattle.program_lines.specs.Printing.{said_to_kind, tolerance_prints};
 
 use program_lines::LINE;
 use program_words::{Said, TwoNumbers, WORD};
+use std::io;
 
 // What is said to two numbers.
 fn said_to_kind(kind: &[u8], a: u32, b: u32) -> Said
     ensures { result ≡ said_to_kind kind.now a b }
 {
-    if check::same(kind, b"label") {
+    if kind == b"label".as_slice() {
         return program_words::said_of(answers::tolerance_answer(tolerance::label(a, b)));
     }
-    if check::same(kind, b"pair") {
+    if kind == b"pair".as_slice() {
         return program_words::said_of(answers::tolerance_answer(tolerance::pair(a, b)));
     }
     Said::Usage
@@ -61,14 +62,23 @@ fn answer(
     )
 }
 
-fn main() {
+fn main(rt: HostRuntime) -> io::Result<()> {
     let mut kind = program_words::word_buffer();
     let mut first = program_words::word_buffer();
     let mut second = program_words::word_buffer();
     let mut line = [0u8; LINE];
-    let k = os::arg(1, &mut kind);
-    let a = os::arg(2, &mut first);
-    let b = os::arg(3, &mut second);
-    let n = answer(os::arg_count(), &kind, k, &first, a, &second, b, &mut line);
-    io::write_all(libc::STDOUT_FILENO, &line[..n]);
+    let k = buffers::word(&rt, 1, &mut kind);
+    let a = buffers::word(&rt, 2, &mut first);
+    let b = buffers::word(&rt, 3, &mut second);
+    let n = answer(
+        buffers::word_count(&rt),
+        &kind,
+        k,
+        &first,
+        a,
+        &second,
+        b,
+        &mut line,
+    );
+    rt.write_all(&line[..n])
 }

@@ -9,8 +9,8 @@ use Rattle.rules.specs.Text.{laid_in}
 use Rattle.rules.specs.declared.Printed.{Printed}
 use Rattle.rules.specs.declared.TextSize.{TextSize}
 use Rattle.rules.proofs.TextLaws.{fits_is}
-use Rattle.io.specs.Counts.{IsPrefixLen}
-use Rattle.io.proofs.Counting.{prefix_len_of_le}
+use Rattle.buffers.specs.Counts.{IsPrefixLen}
+use Rattle.buffers.proofs.Counting.{prefix_len_of_le}
 use Rattle.decimal.specs.Laying.{Laid}
 
 pub laid_text : (t d e : List ℕ) (r : Printed) (z : TextSize) → z ≡ printed_size r → printed_answer r e ≡ laid_in t d → length t ≤ length d → length e ≡ length d

@@ -11,8 +11,8 @@ use Rattle.rules.specs.Text.{text, decimal, laid}
 use Rattle.rules.proofs.TextLaws.{length_decimal}
 use Rattle.decimal.specs.Laying.{Laid, LaysAt, Fitting}
 use Rattle.decimal.proofs.LayingLaws.{laying_fits}
-use Rattle.io.specs.Counts.{IsPrefixLen}
-use Rattle.io.proofs.Counting.{prefix_len_of_le}
+use Rattle.buffers.specs.Counts.{IsPrefixLen}
+use Rattle.buffers.proofs.Counting.{prefix_len_of_le}
 use Rattle.program_words.specs.declared.Said.{Said}
 use Rattle.program_words.specs.declared.Said.TheVariants.{Usage, Refused, Value}
 use Rattle.program_lines.specs.Lines.{line_places, ended, line_of, yes_or_no}

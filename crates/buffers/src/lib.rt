@@ -1,0 +1,81 @@
+// What a program reads into a buffer of its own: from an input, from a file, or a word that it was given. Each call answers how many
+// bytes it put at the front of the buffer.
+#![tactic(auto)]
+
+ghost use Rattle.std.specs.Prelude.{◌≡◌, ◌<◌, length, take, IfOk};
+ghost use Rattle.std.specs.Io.{ReadsAtMost};
+ghost use Rattle.std.specs.Io.KnownBytes.{Consumes, IsAtEnd};
+ghost use Rattle.buffers.specs.Counts.{IsPrefixLen};
+
+use std::env::{Env, FillError};
+use std::io::Read;
+use std::rt::Files;
+use std::{fs, io, str};
+
+// A buffer of 4,096 places. A call, since the check computes with every place of an array that is written out.
+pub fn small() -> [u8; 4096]
+    ensures { 4096 ≡ length result }
+{
+    [0; 4096]
+}
+
+// A buffer of 65,536 places.
+pub fn large() -> [u8; 65536]
+    ensures { 65536 ≡ length result }
+{
+    [0; 65536]
+}
+
+// Reads until the buffer is full or the input ends. Of an input whose bytes are known: the buffer has those that it had left, and where
+// they do not fill the buffer, none is left.
+pub fn read_full<R: Read>(from: &mut R, buffer: &mut [u8]) -> io::Result<usize>
+    ensures bound { ReadsAtMost result buffer.new }
+    ensures bytes { IfOk result (λ n. Consumes (R.remaining from.old) (R.remaining from.new) (take n buffer.new)) }
+    ensures end { IfOk result (λ n. n < length buffer.new → IsAtEnd (R.remaining from.new)) }
+{
+    let mut done = 0;
+    while done < buffer.len() {
+        let n = from.read(&mut buffer[done..])?;
+        if n == 0 {
+            break;
+        }
+        done += n;
+    }
+    Ok(done)
+}
+
+// The bytes of a file, as many as fit; none where it cannot be read.
+pub fn read_file(rt: &impl Files, name: &[u8], buffer: &mut [u8]) -> usize
+    ensures { IsPrefixLen result buffer.new }
+{
+    let Ok(path) = str::from_utf8(name) else {
+        return 0;
+    };
+    let Ok(mut file) = fs::open(rt, path) else {
+        return 0;
+    };
+    match read_full(&mut file, buffer) {
+        Ok(n) => n,
+        Err(_) => 0,
+    }
+}
+
+// The word at this place of those that the program was given, its own name at 0; none where it is missing or does not fit.
+pub fn word(rt: &impl Env, place: usize, buffer: &mut [u8]) -> usize
+    ensures { IsPrefixLen result buffer.new }
+{
+    match rt.arg(place, buffer) {
+        Ok(n) => n,
+        Err(_) => 0,
+    }
+}
+
+// How many words the program was given, with its own name.
+pub fn word_count(rt: &impl Env) -> usize {
+    for place in 0..usize::MAX {
+        if let Err(FillError::NotPresent) = rt.arg(place, &mut []) {
+            return place;
+        }
+    }
+    usize::MAX
+}
