@@ -3,3 +3,4 @@ pub mod Counting
 pub mod Lengths
 pub mod Ascending
 pub mod Whole
+pub mod DigitsLeft
