@@ -1,15 +1,12 @@
 -- Laws of what lotmixing keeps of its words: one word more, and what is said to them. Assumes nothing.
 use mathlib.Core.Path.{◌≡◌, refl, sym, ap, ◌∙◌}
 use mathlib.Core.Bool.{true, false, true≢false, ◌&&◌, and_assoc}
-use mathlib.Core.List.{List, [], ◌∷◌, ◌++◌, map, map-id}
+use mathlib.Core.List.{List, [], ◌∷◌, ◌++◌, map}
 use Prim.Native.Nat.{ℕ, suc, ◌+◌, ◌-◌, ◌≤◌, ◌<◌}
 use native.Mathlib.Numerals.{add-one}
 use native.Mathlib.Omega.{arith}
 use lib.ListN.{length, take, drop, get_or, set, length-append, length-take}
 use lib.Seq.{take_all, take-suc-set, take-append-le}
-use mir.Val.{Val}
-use denote.Laws.{Is}
-use denote.Struct.Declared.{row}
 use Rattle.rules.specs.Mixing.{mixing_of}
 use Rattle.rules.specs.declared.Answered.{Answered}
 use Rattle.rules.proofs.Tests.{and_true, and_false}
@@ -23,12 +20,7 @@ use Rattle.program_words.specs.Saying.{said_of}
 use Rattle.program_lines.specs.Printing.{all_numbers, said_to_mixing}
 use Rattle.lotmixing.specs.declared.Listed.{Listed}
 use Rattle.lotmixing.specs.Listing.{most_kept, KeptOf}
-use Rattle.lotmixing.specs.contracts.Listed as listed-type
 use Rattle.lotmixing.proofs.Exact.{too_many, exact}
-
--- the type tells how many places there are
-pub listed_sized : (l : Listed) (vs : List Val) → Is (row listed-type.the_type) l vs → length l.values ≡ most_kept
-listed_sized l vs g = ap length (sym (map-id l.values)) ∙ g.1.1.1.1.0.1.0.1
 
 -- ---- one word more
 all_more : (ws : List (List ℕ)) (w : List ℕ) → all_numbers (ws ++ (w ∷ [])) ≡ all_numbers ws && is_number w
