@@ -10,7 +10,7 @@ use rules::{CRITICALS, Frame, Head, Lot, MOST_ROWS, Refusal, Stage};
 
 // What the lines of lot and card came to, but for the card's lists: the stage, the lot, F, G, n and the number of rows of the card,
 // and N of the critical frame before, 0 for none.
-#[derive(Drop)]
+#[derive(Clone, Copy)]
 pub struct Progress {
     pub stage: Stage,
     pub lot: Lot,
@@ -20,7 +20,7 @@ pub struct Progress {
 }
 
 // What a line comes to before the first result.
-#[derive(Drop)]
+#[derive(Clone, Copy)]
 pub enum HeadLine {
     // a line of lot or card, taken
     Taken(Progress),

@@ -9,7 +9,7 @@ use tally::Tally;
 
 // A list's answer: accepted with line 0, or what its first faulty line is refused with and that line's number, counted from 1; and the
 // tally after it.
-#[derive(Drop)]
+#[derive(Clone, Copy)]
 pub struct Listing {
     pub refusal: Refusal,
     pub line: usize,
@@ -17,7 +17,7 @@ pub struct Listing {
 }
 
 // The answer, and how many results are held behind the lines that were entered.
-#[derive(Drop)]
+#[derive(Clone, Copy)]
 struct Taken {
     refusal: Refusal,
     line: usize,

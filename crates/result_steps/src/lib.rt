@@ -11,14 +11,14 @@ ghost use Rattle.result_steps.specs.Promise.{stored_as, ResultLineIs};
 use rules::{Frame, Lot, MOST_HELD, Pans, Refusal, Stage};
 
 // Once the lot is opened: the stage, and how many results are held.
-#[derive(Drop)]
+#[derive(Clone, Copy)]
 pub struct Results {
     pub stage: Stage,
     pub held: usize,
 }
 
 // What a line comes to then.
-#[derive(Drop)]
+#[derive(Clone, Copy)]
 pub enum ResultLine {
     Taken(Results),
     Refused(Refusal),

@@ -17,7 +17,7 @@ use result_steps::{ResultLine, Results};
 use rules::{CRITICALS, Card, Lot, MOST_HELD, MOST_ROWS, Refusal, Stage};
 use tally::Tally;
 
-#[derive(Drop)]
+#[derive(Clone, Copy)]
 pub enum Answer {
     // with the number of lines
     Accepted(usize),
@@ -26,7 +26,7 @@ pub enum Answer {
 }
 
 // On a refusal the tally is the fresh one.
-#[derive(Drop)]
+#[derive(Clone, Copy)]
 pub struct Reading {
     pub answer: Answer,
     pub tally: Tally,
@@ -42,7 +42,7 @@ fn refused(e: Refusal, line: usize) -> Reading
 }
 
 // What the lines of lot and card come to.
-#[derive(Drop)]
+#[derive(Clone, Copy)]
 enum HeadLines {
     // the results begin: what was read, and the place and the number of the line with which they do
     Results(Progress, usize, usize),
@@ -82,7 +82,7 @@ fn take_head(
 }
 
 // What the lines of results come to.
-#[derive(Drop)]
+#[derive(Clone, Copy)]
 enum ResultLines {
     // the sheet ends with 06: how many are held, and the number of lines
     Ended(usize, usize),

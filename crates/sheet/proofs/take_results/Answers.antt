@@ -1,0 +1,44 @@
+-- `sheet::take_results` meets its contract.
+use Rattle.std.proofs.Common.{sym, ◌∙◌, true, false, arith}
+use Rattle.sheet.proofs.Following.{result_frame_lem, line_comes, line_next, rest_none}
+use Rattle.sheet.proofs.take_results.Goals as goal
+
+pub overflow_add-at : goal.overflow_add-at
+overflow_add-at c =
+    let next = line_next c.loop-at.invariant.0 c.loop-at-test.true c.line_at-result_line.ensures (result_frame_lem _ c.in-Taken.ensures.result) in
+    omega (arith, next.0.within)
+
+pub loop-at-smaller : goal.loop-at-smaller
+loop-at-smaller c =
+    let next = line_next c.loop-at.invariant.0 c.loop-at-test.true c.line_at-result_line.ensures (result_frame_lem _ c.in-Taken.ensures.result) in
+    omega (arith, next.0.within, next.1)
+
+pub loop-at-preserved : goal.loop-at-preserved
+loop-at-preserved c =
+    let loop = c.loop-at in
+    let taken = c.in-Taken.ensures in (
+      (line_next loop.invariant.0 c.loop-at-test.true c.line_at-result_line.ensures (result_frame_lem _ taken.result)).0,
+      λ d s. let sofar = loop.invariant.1 d s in (
+        taken.proper d sofar.0,
+        λ last. line_comes loop.invariant.0 c.loop-at-test.true c.line_at-result_line.ensures _ (sofar.1 last) (taken.right d last sofar.0),
+      ),
+    )
+
+pub returns-in-Refused : goal.returns-in-Refused
+returns-in-Refused c d last s =
+    let loop = c.loop-at in
+    let sofar = loop.invariant.1 d s in
+    line_comes loop.invariant.0 c.loop-at-test.true c.line_at-result_line.ensures _ (sofar.1 last) (c.in-Refused.ensures.right d last sofar.0)
+
+pub returns-then-is_ended : goal.returns-then-is_ended
+returns-then-is_ended c d last s =
+    let loop = c.loop-at in
+    let sofar = loop.invariant.1 d s in
+    let ended = rest_none loop.invariant.0 c.loop-at-test.false _ true (sym c.is_ended.ensures ∙ c.if-is_ended.true) in
+    record { right = sofar.1 last ∙ ended; sound = sofar.0.sound }
+
+pub returns : goal.returns
+returns c d last s =
+    let loop = c.loop-at in
+    (loop.invariant.1 d s).1 last
+    ∙ rest_none loop.invariant.0 c.loop-at-test.false _ false (sym c.is_ended.ensures ∙ c.if-is_ended.false)
