@@ -1,0 +1,33 @@
+-- `list_reader::take_lines` meets its contract: the lines before `at` are entered, and the next one has the number `line`. Assumes nothing.
+use mathlib.Core.Path.{sym, ◌∙◌}
+use Prim.Native.Nat.{◌-◌}
+use Rattle.list_reader.proofs.Entering.{reached_start, read_by, taken_all, taken_unended, taken_stopped, reached_more}
+use Rattle.list_reader.proofs.take_lines.Goals as goal
+
+pub loop-at-init : goal.loop-at-init
+loop-at-init c = reached_start _ _ _ _ _
+
+pub returns-then-list-end : goal.returns-then-list-end
+returns-then-list-end c =
+    let test = c in
+    let read = read_by _ _ _ _ _ c.of.ensures c.line_at-l.ensures in
+    taken_unended _ _ _ _ _ _ _ _ _ _ test.loop-at.invariant _ read test.loop-at-test.true c.if-list-end.true
+
+pub returns-then-number-ne0 : goal.returns-then-number-ne0
+returns-then-number-ne0 c =
+    let whole = c in
+    let test = whole in
+    let read = read_by _ _ _ _ _ whole.of.ensures whole.line_at-l.ensures in
+    taken_stopped _ _ _ _ _ _ _ _ _ _ test.loop-at.invariant _ read test.loop-at-test.true whole.if-list-end.false _ _ _
+    c.enter_entry-e.ensures (λ z. c.if-number-ne0.true (c.number.ensures ∙ z))
+
+pub loop-at-preserved : goal.loop-at-preserved
+loop-at-preserved c =
+    let whole = c in
+    let test = whole in
+    let read = read_by _ _ _ _ _ whole.of.ensures whole.line_at-l.ensures in
+    reached_more _ _ _ _ _ _ _ _ _ _ test.loop-at.invariant _ read test.loop-at-test.true whole.if-list-end.false _ _ _
+    c.enter_entry-e.ensures (sym c.number.ensures ∙ c.if-number-ne0.false)
+
+pub returns : goal.returns
+returns c = taken_all _ _ _ _ _ _ _ _ _ _ c.loop-at.invariant c.loop-at-test.false
