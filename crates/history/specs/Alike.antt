@@ -2,7 +2,7 @@
 -- answer depends on it.
 use Rattle.std.specs.Prelude.{ℕ, ◌≡◌, List, length, take, drop}
 use base.Fml.{Lft}
-use Rattle.std.specs.Borrow.{Bor}
+use Rattle.std.specs.Borrow.{Bor, MutBor}
 use Rattle.rules.specs.Numbers.{reported_size, written_size, printed_size}
 use Rattle.rules.specs.declared.Lot.{Lot}
 use Rattle.rules.specs.declared.Card.{Card}
@@ -48,10 +48,10 @@ pub record AnswersAlike (t u : Tally) : Type 0 where
   pub withdraws : (k : ℕ) (r q : Outcome) → WithdrawStep t k r → WithdrawStep u k q → answer r ≡ answer q
   pub joins : {ds es : Calls} {ms os : List Answer} (o p : Tally) → Run ds ms o → Run es os p → ledger ds ≡ ledger es → (r q : Outcome) → JoinStep t o r → JoinStep u p q → answer r ≡ answer q
   pub lists : (κ₁ κ₂ : Lft) (l₁ l₂ : Bor (List ℕ)) → l₁.now ≡ l₂.now → (r q : Listing) → ListStep κ₁ t l₁ r → ListStep κ₂ u l₂ q → listed r ≡ listed q
-  pub writes : (κ₁ κ₂ : Lft) (b₁ b₂ : Bor (List ℕ)) → length b₁.now ≡ length b₂.now
-      → (r₁ r₂ : Written) (a₁ a₂ : Bor (List ℕ)) → WriteStep κ₁ t b₁ r₁ a₁ → WriteStep κ₂ u b₂ r₂ a₂ → SameSheet b₁.now b₂.now r₁ r₂ a₁.now a₂.now
-  pub writes_list : (κ₁ κ₂ : Lft) (b₁ b₂ : Bor (List ℕ)) → length b₁.now ≡ length b₂.now
-      → (r₁ r₂ : Printed) (a₁ a₂ : Bor (List ℕ)) → WriteListStep κ₁ t b₁ r₁ a₁ → WriteListStep κ₂ u b₂ r₂ a₂ → SameList b₁.now b₂.now r₁ r₂ a₁.now a₂.now
+  pub writes : (κ₁ κ₂ : Lft) (b₁ b₂ : MutBor (List ℕ)) → length b₁.now ≡ length b₂.now
+      → (r₁ r₂ : Written) (a₁ a₂ : MutBor (List ℕ)) → WriteStep κ₁ t b₁ r₁ a₁ → WriteStep κ₂ u b₂ r₂ a₂ → SameSheet b₁.now b₂.now r₁ r₂ a₁.now a₂.now
+  pub writes_list : (κ₁ κ₂ : Lft) (b₁ b₂ : MutBor (List ℕ)) → length b₁.now ≡ length b₂.now
+      → (r₁ r₂ : Printed) (a₁ a₂ : MutBor (List ℕ)) → WriteListStep κ₁ t b₁ r₁ a₁ → WriteListStep κ₂ u b₂ r₂ a₂ → SameList b₁.now b₂.now r₁ r₂ a₁.now a₂.now
 
 -- any two lists of calls that end with the same lot, card and held results
 abbrev pub OrderIsFree : Type 0

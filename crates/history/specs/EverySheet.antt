@@ -2,7 +2,7 @@
 -- a sheet to the verdict printed.
 use Rattle.std.specs.Prelude.{ℕ, ◌≤◌, ◌<◌, ◌≡◌, List, take, drop}
 use base.Fml.{Lft}
-use Rattle.std.specs.Borrow.{Bor}
+use Rattle.std.specs.Borrow.{Bor, MutBor}
 use Rattle.rules.specs.Limits.{least_reported}
 use Rattle.rules.specs.Ledger.{Ledger, held}
 use Rattle.rules.specs.Report.{report_of}
@@ -26,6 +26,6 @@ pub data Prints (sheet text : List ℕ) : Type 0 where
 
 pub record EverySheet : Type 0 where
   -- all bytes at all, and any buffer that the text fits
-  pub printed : (κ₁ κ₂ : Lft) (sheet before : Bor (List ℕ)) (n : ℕ) (after : Bor (List ℕ)) → JudgeStep κ₁ κ₂ sheet before (Length n) after → Prints sheet.now (take n after.now)
+  pub printed : (κ₁ κ₂ : Lft) (sheet : Bor (List ℕ)) (before : MutBor (List ℕ)) (n : ℕ) (after : MutBor (List ℕ)) → JudgeStep κ₁ κ₂ sheet before (Length n) after → Prints sheet.now (take n after.now)
   -- the bytes behind the text stay
-  pub behind : (κ₁ κ₂ : Lft) (sheet before : Bor (List ℕ)) (n : ℕ) (after : Bor (List ℕ)) → JudgeStep κ₁ κ₂ sheet before (Length n) after → drop n after.now ≡ drop n before.now
+  pub behind : (κ₁ κ₂ : Lft) (sheet : Bor (List ℕ)) (before : MutBor (List ℕ)) (n : ℕ) (after : MutBor (List ℕ)) → JudgeStep κ₁ κ₂ sheet before (Length n) after → drop n after.now ≡ drop n before.now

@@ -2,7 +2,7 @@
 -- bounds and a mean bound of at least the mean that the MEAN line shows. On the text of every report, and on that of every sheet.
 use Rattle.std.specs.Prelude.{ℕ, ◌≤◌, ◌<◌, ◌≡◌, List, [], ◌∷◌, ◌++◌, get_or, take}
 use base.Fml.{Lft}
-use Rattle.std.specs.Borrow.{Bor}
+use Rattle.std.specs.Borrow.{Bor, MutBor}
 use Rattle.rules.specs.Limits.{least_reported}
 use Rattle.rules.specs.Text.{text, pointed}
 use Rattle.rules.specs.Attributes.{places_of_x, mean_scale}
@@ -55,7 +55,7 @@ pub record RangeLines (g : Ledger) (report : List ℕ) : Type 0 where
 
 pub record EveryRange : Type 0 where
   -- the report of every tally that a list of calls ends with
-  pub reports : (cs : Calls) (ns : List Answer) (t : Tally) → Run cs ns t → (κ : Lft) (b : Bor (List ℕ)) (n : ℕ) (a : Bor (List ℕ)) → ReportStep κ t b (reported.Length n) a → RangeLines (ledger cs) (take n a.now)
+  pub reports : (cs : Calls) (ns : List Answer) (t : Tally) → Run cs ns t → (κ : Lft) (b : MutBor (List ℕ)) (n : ℕ) (a : MutBor (List ℕ)) → ReportStep κ t b (reported.Length n) a → RangeLines (ledger cs) (take n a.now)
   -- what is printed for every sheet that is accepted and has enough results
-  pub sheets : (κ₁ κ₂ : Lft) (sheet before : Bor (List ℕ)) (n : ℕ) (after : Bor (List ℕ)) → JudgeStep κ₁ κ₂ sheet before (printed.Length n) after
+  pub sheets : (κ₁ κ₂ : Lft) (sheet : Bor (List ℕ)) (before : MutBor (List ℕ)) (n : ℕ) (after : MutBor (List ℕ)) → JudgeStep κ₁ κ₂ sheet before (printed.Length n) after
       → (g : Ledger) (lines : ℕ) → read_of sheet.now ≡ accepted g lines → least_reported ≤ held g → RangeLines g (take n after.now)

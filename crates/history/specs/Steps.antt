@@ -1,7 +1,7 @@
 -- The steps of a run: what the functions' own contracts, as the check reads them, say of a call.
 use Rattle.std.specs.Prelude.{ℕ, List}
 use base.Fml.{Lft}
-use Rattle.std.specs.Borrow.{Bor}
+use Rattle.std.specs.Borrow.{Bor, MutBor}
 use Rattle.rules.specs.declared.Lot.{Lot}
 use Rattle.rules.specs.declared.Card.{Card}
 use Rattle.rules.specs.declared.Pans.{Pans}
@@ -54,15 +54,15 @@ abbrev pub RangeStep : Lft → Bor (List ℕ) → ℕ → Range → Type 0
 RangeStep κ results n r = range-reads.Learnt (κ, tt) (results, (n, tt)) r (results, (n, tt))
 
 -- a report of t into the buffer that has `before`, and `after` as the call returns
-abbrev pub ReportStep : Lft → Tally → Bor (List ℕ) → Reported → Bor (List ℕ) → Type 0
+abbrev pub ReportStep : Lft → Tally → MutBor (List ℕ) → Reported → MutBor (List ℕ) → Type 0
 ReportStep κ t before r after = report-reads.Learnt (κ, tt) (t, (before, tt)) r (t, (after, tt))
 
 -- the sheet of t, written into the buffer that has `before`, and `after` as the call returns
-abbrev pub WriteStep : Lft → Tally → Bor (List ℕ) → Written → Bor (List ℕ) → Type 0
+abbrev pub WriteStep : Lft → Tally → MutBor (List ℕ) → Written → MutBor (List ℕ) → Type 0
 WriteStep κ t before r after = write-reads.Learnt (κ, tt) (t, (before, tt)) r (t, (after, tt))
 
 -- the held results of t as a comma list, likewise
-abbrev pub WriteListStep : Lft → Tally → Bor (List ℕ) → Printed → Bor (List ℕ) → Type 0
+abbrev pub WriteListStep : Lft → Tally → MutBor (List ℕ) → Printed → MutBor (List ℕ) → Type 0
 WriteListStep κ t before r after = write-list-reads.Learnt (κ, tt) (t, (before, tt)) r (t, (after, tt))
 
 -- a sheet that is read
@@ -70,5 +70,5 @@ abbrev pub ReadStep : Lft → Bor (List ℕ) → Reading → Type 0
 ReadStep κ sheet r = read-reads.Learnt (κ, tt) (sheet, tt) r (sheet, tt)
 
 -- a sheet that is judged into a buffer
-abbrev pub JudgeStep : Lft → Lft → Bor (List ℕ) → Bor (List ℕ) → Printed → Bor (List ℕ) → Type 0
+abbrev pub JudgeStep : Lft → Lft → Bor (List ℕ) → MutBor (List ℕ) → Printed → MutBor (List ℕ) → Type 0
 JudgeStep κ₁ κ₂ sheet before r after = judge-reads.Learnt (κ₁, (κ₂, tt)) (sheet, (before, tt)) r (sheet, (after, tt))

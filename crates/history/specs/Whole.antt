@@ -2,7 +2,7 @@
 -- they end with.
 use Rattle.std.specs.Prelude.{ℕ, ◌+◌, ◌≡◌, List, length, take}
 use base.Fml.{Lft}
-use Rattle.std.specs.Borrow.{Bor}
+use Rattle.std.specs.Borrow.{MutBor}
 use Rattle.rules.specs.Ledger.{held}
 use Rattle.rules.specs.declared.Reported.{Reported}
 use Rattle.rules.specs.declared.Reported.TheVariants.{Length}
@@ -30,7 +30,7 @@ pub record Whole : Type 0 where
   pub ends : (cs : Calls) (ns : List Answer) (t : Tally) → Run cs ns t → Ends cs ns t
   -- any two such lists that end with the same lot, card and held results report alike into any two buffers of one length
   pub alike : (cs ds : Calls) (ns ms : List Answer) (t u : Tally) → Run cs ns t → Run ds ms u → ledger cs ≡ ledger ds
-      → (κ₁ κ₂ : Lft) (b₁ b₂ : Bor (List ℕ)) → length b₁.now ≡ length b₂.now
-      → (r₁ r₂ : Reported) (a₁ a₂ : Bor (List ℕ)) → ReportStep κ₁ t b₁ r₁ a₁ → ReportStep κ₂ u b₂ r₂ a₂ → SameReport b₁.now b₂.now r₁ r₂ a₁.now a₂.now
+      → (κ₁ κ₂ : Lft) (b₁ b₂ : MutBor (List ℕ)) → length b₁.now ≡ length b₂.now
+      → (r₁ r₂ : Reported) (a₁ a₂ : MutBor (List ℕ)) → ReportStep κ₁ t b₁ r₁ a₁ → ReportStep κ₂ u b₂ r₂ a₂ → SameReport b₁.now b₂.now r₁ r₂ a₁.now a₂.now
   -- the text of such a report: N is the number held; the mean, and H where it is worked out, each with its mark
-  pub reports : (cs : Calls) (ns : List Answer) (t : Tally) → Run cs ns t → (κ : Lft) (b : Bor (List ℕ)) (n : ℕ) (a : Bor (List ℕ)) → ReportStep κ t b (Length n) a → ReportLines (ledger cs) (take n a.now)
+  pub reports : (cs : Calls) (ns : List Answer) (t : Tally) → Run cs ns t → (κ : Lft) (b : MutBor (List ℕ)) (n : ℕ) (a : MutBor (List ℕ)) → ReportStep κ t b (Length n) a → ReportLines (ledger cs) (take n a.now)

@@ -2,7 +2,7 @@
 -- is what the called function's own contract promises.
 use Rattle.std.specs.Prelude.{◌≡◌, List, [], ◌++◌, ℕ, zero, suc, ◌+◌, ◌≤◌, length, take, replicate}
 use base.Fml.{Lft}
-use Rattle.std.specs.Borrow.{Bor}
+use Rattle.std.specs.Borrow.{Bor, MutBor}
 use Rattle.rules.specs.Limits.{most_held, least_reported, most_rows, least_factor, most_digits}
 use Rattle.rules.specs.Cards.{head_of, card_of}
 use Rattle.rules.specs.Ledger.{Ledger, containers}
@@ -89,15 +89,15 @@ LastByteNeeded = printed_for (take (longest_read + most_digits) one_line_more) �
 pub record Trip : Type 0 where
   -- what the writer's call laid down for a tally that a list of calls ends with, one read from a sheet among them: the reader's call
   -- accepts it, and what it yields is the list's ledger
-  pub back : (cs : Calls) (ns : List Answer) (t : Tally) → Run cs ns t → (κ₁ : Lft) (b : Bor (List ℕ)) (n : ℕ) (a : Bor (List ℕ)) → WriteStep κ₁ t b (Length n) a
+  pub back : (cs : Calls) (ns : List Answer) (t : Tally) → Run cs ns t → (κ₁ : Lft) (b : MutBor (List ℕ)) (n : ℕ) (a : MutBor (List ℕ)) → WriteStep κ₁ t b (Length n) a
       → (κ₂ : Lft) (sheet : Bor (List ℕ)) (r : Reading) → sheet.now ≡ take n a.now → ReadStep κ₂ sheet r → Yields sheet.now r (ledger cs)
   -- such a tally is written, in whatever order its results are stored, once a lot is opened and where the buffer has room for the
   -- longest sheet that is written
-  pub written : (cs : Calls) (ns : List Answer) (t : Tally) → Run cs ns t → 1 ≤ containers (ledger cs) → (κ : Lft) (b : Bor (List ℕ)) (w : Written) (a : Bor (List ℕ)) → longest_written ≤ length b.now → WriteStep κ t b w a → WrittenAs w
+  pub written : (cs : Calls) (ns : List Answer) (t : Tally) → Run cs ns t → 1 ≤ containers (ledger cs) → (κ : Lft) (b : MutBor (List ℕ)) (w : Written) (a : MutBor (List ℕ)) → longest_written ≤ length b.now → WriteStep κ t b w a → WrittenAs w
   -- by the definitions: what any sheet is read as, the sheet that is written of it is read as again
   pub again : (sheet : List ℕ) (g : Ledger) (lines : ℕ) → read_of sheet ≡ accepted g lines → ReadsAs (sheet_of g) g
   -- no sheet that is written is longer than 2,629 bytes
-  pub short : (cs : Calls) (ns : List Answer) (t : Tally) → Run cs ns t → (κ : Lft) (b : Bor (List ℕ)) (n : ℕ) (a : Bor (List ℕ)) → WriteStep κ t b (Length n) a → n ≤ longest_written
+  pub short : (cs : Calls) (ns : List Answer) (t : Tally) → Run cs ns t → (κ : Lft) (b : MutBor (List ℕ)) (n : ℕ) (a : MutBor (List ℕ)) → WriteStep κ t b (Length n) a → n ≤ longest_written
   -- and one has that length: each of these calls is accepted, and the sheet of what they end with is accepted
   pub calls : (n : ℕ) → n ≤ most_held → (judge (filling n)).number ≡ 0
   pub long : length (sheet_of (ledger (filling most_held))) ≡ longest_written
