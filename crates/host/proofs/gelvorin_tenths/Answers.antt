@@ -6,19 +6,15 @@ use Rattle.rules.specs.Numbers.{weight_answer}
 use Rattle.rules.specs.Weights.{tenths_of}
 use Rattle.rules.proofs.WeightLaws.{bits_back}
 use Rattle.codes.specs.Codes.{answer_code}
-use Rattle.host.proofs.gelvorin_tenths.Statement.{statement}
-use Rattle.host.proofs.gelvorin_tenths.Tie as tie
+use Rattle.host.proofs.gelvorin_tenths.Goals as goal
 
-returns : tie.Need-returns
+pub returns : goal.returns
 returns c =
-    let answer = c.before in
-    let tenths = answer.before in
-    let float = tenths.before in
-    let bits = float.before.args.bits in
-    c.answer-code.ensures
+    let answer = c in
+    let tenths = answer in
+    let float = tenths in
+    let bits = float.args.bits in
+    c.answer_code.ensures
     ∙ ap answer_code
-    (answer.weight-answer.ensures
+    (answer.weight_answer.ensures
     ∙ ap weight_answer (tenths.tenths.ensures ∙ ap (λ (w : Float). tenths_of (to_bits binary32 w)) float.float.ensures ∙ bits_back bits (search rules)))
-
-pub gelvorin-tenths-spec : {M : Type 1} → statement M
-gelvorin-tenths-spec = tie.close (tie.spec (λ c κs. search rules) (λ c κs. search rules) (λ c κs. search rules) (λ c κs. search rules) returns)
