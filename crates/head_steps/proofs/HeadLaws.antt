@@ -1,17 +1,17 @@
 -- Laws of the lines of lot and card, and of the line with which the results begin. Assumes nothing.
-use mathlib.Core.Path.{◌≡◌, refl, sym, ◌∙◌}
-use mathlib.Core.Bool.{Bool, true, false, not, ◌&&◌, true≢false}
+use mathlib.Core.Path.{◌≡◌, refl, ◌∙◌}
+use mathlib.Core.Bool.{Bool, true, false, ◌&&◌}
 use Prim.Native.Nat.{ℕ, ◌<◌}
 use native.Mathlib.Omega.{arith}
 use lib.Dec.{eqb, leb, ltb}
-use borrow.Author.Tests.{leb-true, lt-ltb, not-true, not-false}
+use borrow.Author.Tests.{leb-true}
 use Rattle.rules.specs.Choice.{pick, unless}
 use Rattle.rules.specs.Numbers.{number_of}
-use Rattle.rules.specs.Limits.{most_held, least_reported, criticals, most_rows}
-use Rattle.rules.specs.Cards.{critical_follows, row_good, with_row, open_number}
+use Rattle.rules.specs.Limits.{most_held, least_reported, criticals}
+use Rattle.rules.specs.Cards.{critical_follows, open_number}
 use Rattle.rules.specs.Ledger.{Ledger, opened, enter_on, weigh_on, fresh_ledger}
 use Rattle.rules.specs.Stages.{may_stand, is_opened}
-use Rattle.rules.specs.Reading.{State, Next, goes, stops, on_card, on_ledger, and_then, range_step, result_step, balance_step, end_step, step_of}
+use Rattle.rules.specs.Reading.{Next, goes, stops, on_ledger, and_then, result_step, balance_step, end_step, step_of}
 use Rattle.rules.specs.declared.Pans.{Pans}
 use Rattle.rules.specs.declared.Refusal.{Refusal}
 use Rattle.rules.specs.declared.Stage.TheVariants as stage

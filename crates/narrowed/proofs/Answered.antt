@@ -1,5 +1,5 @@
 -- What is handed on is answered, and leaves the ledger, as the exact numbers do. Assumes nothing.
-use mathlib.Core.Path.{◌≡◌, refl, sym, ap, ◌∙◌}
+use mathlib.Core.Path.{◌≡◌, refl}
 use mathlib.Core.Bool.{Bool, true, false, ◌||◌}
 use Prim.Native.Nat.{ℕ, ◌≤◌, ◌<◌}
 use native.Mathlib.Omega.{arith}
@@ -9,7 +9,7 @@ use borrow.Author.Tests.{ne_eqb, lt-ltb, le-leb, lt-leb}
 use Rattle.rules.specs.Choice.{pick}
 use Rattle.rules.specs.Limits.{widest, highest_x}
 use Rattle.rules.specs.Contents.{is_held}
-use Rattle.rules.specs.Ledger.{Ledger, Judged, judged, containers, entered, enter_on, withdraw_on}
+use Rattle.rules.specs.Ledger.{Ledger, judged, containers, entered, enter_on, withdraw_on}
 use Rattle.narrowed.specs.Narrowed.{kept_container, kept_x}
 
 refused_same : (b : Bool) (g u v : Ledger) → judged (pick b 6 7) g u ≡ judged (pick b 6 7) g v

@@ -11,7 +11,7 @@ use Rattle.rules.specs.Text.{byte}
 use Rattle.rules.specs.Lines.{Line, ended, unended, cut_from, lines_of}
 use Rattle.rules.specs.Reading.{State, at_start}
 use Rattle.reading_theorems.specs.Lengths.{NoneLonger}
-use Rattle.reading_theorems.proofs.Accepted.{Leads, nothing, line, accepted_sheet}
+use Rattle.reading_theorems.proofs.Accepted.{Leads, line, accepted_sheet}
 use Rattle.reading_theorems.proofs.Fitting.{frame_fits}
 use Rattle.reading_theorems.proofs.Falling.{room, falls, room_start}
 

@@ -6,7 +6,7 @@ use mathlib.Core.List.{List, [], ◌∷◌, ◌++◌}
 use Prim.Native.Nat.{ℕ, suc, ◌+◌, ◌-◌, ◌≤◌, ◌<◌}
 use native.Mathlib.Decide.{ℕ_discrete}
 use native.Mathlib.Omega.{arith}
-use lib.Dec.{eqb, ltb, leb-suc-suc}
+use lib.Dec.{eqb, leb-suc-suc}
 use lib.ListN.{length, take, drop, take-append-drop}
 use lib.Seq.{take-take, length-take-le}
 use borrow.Author.Tests.{eq-eqb, ne_eqb, eqb-false}
@@ -15,7 +15,7 @@ use Rattle.rules.specs.Limits.{most_held}
 use Rattle.rules.specs.Text.{byte}
 use Rattle.rules.specs.Lines.{Line, ended, cut_from, lines_of}
 use Rattle.rules.specs.Attributes.{attribute_of}
-use Rattle.rules.specs.Ledger.{Ledger, Judged, held, enter_number, enter_on}
+use Rattle.rules.specs.Ledger.{Ledger, Judged, held, enter_number}
 use Rattle.rules.specs.ListReading.{Says, bad, says, first, has, line_says, line_on, Listed, enter_lines, list_on}
 use Rattle.rules.specs.Printing.{ended_bytes, ended_lines}
 use Rattle.rules.proofs.LedgerLaws.{enter_tells, enter_held}

@@ -9,7 +9,7 @@ use Rattle.rules.specs.Cards.{head_of, card_of}
 use Rattle.rules.specs.Lines.{cut_from}
 use Rattle.rules.specs.Ledger.{Ledger, fresh_ledger, opened, held}
 use Rattle.rules.specs.Decimals.{all_decimal, value_behind, decimal_value}
-use Rattle.rules.specs.ListReading.{Says, bad, says, plain_of, first, hundredths_of, percent_of, say_of, Listed, enter_lines, list_on}
+use Rattle.rules.specs.ListReading.{bad, says, plain_of, first, hundredths_of, percent_of, say_of, enter_lines, list_on}
 use Rattle.rules.specs.ListWriting.{list_line, list_lines, list_of}
 use Rattle.rules.specs.declared.Attribute.TheVariants.{Purity, Germination, Count}
 

@@ -1,6 +1,6 @@
 -- The first row that serves, and what the row by the printed mean changes against the exact mean. Assumes nothing.
 use mathlib.Core.Path.{◌≡◌, refl, sym, ap, ◌∙◌}
-use mathlib.Core.Bool.{Bool, true, false, ◌&&◌, true≢false}
+use mathlib.Core.Bool.{Bool, true, false, true≢false}
 use Prim.Native.Nat.{ℕ, zero, suc, ◌+◌, ◌-◌, ◌*◌, ◌^◌, ◌≤◌, ◌<◌}
 use native.Mathlib.Nat.{mul-le-mul_left, mul-le-mul_right}
 use native.Mathlib.Numerals.{add-one}
@@ -11,7 +11,7 @@ use lib.ListN.{get_or}
 use borrow.Author.Tests.{le-leb, lt-leb, leb-true}
 use Rattle.rules.specs.Choice.{pick}
 use Rattle.rules.specs.Attributes.{places_of_x, places_of_mean, mean_places, mean_scale}
-use Rattle.rules.specs.Figures.{mean_of, printed_mean, row_serves, tolerated_upto, tolerated_for}
+use Rattle.rules.specs.Figures.{mean_of, printed_mean, row_serves, tolerated_upto}
 use Rattle.rules.specs.Rows.{Serves, FirstRow, exact_mean, JustBelow, RowByPrintedMean}
 use Rattle.rules.specs.declared.Attribute.{Attribute}
 use Rattle.rules.specs.declared.Attribute.TheVariants.{Purity, Germination, Count}

@@ -1,12 +1,11 @@
 -- As the tops rise, the rows with a top below the average stand before all others. Assumes nothing.
-use mathlib.Core.Path.{◌≡◌, sym, ap, ◌∙◌}
+use mathlib.Core.Path.{◌≡◌, ap, ◌∙◌}
 use mathlib.Core.List.{List, [], ◌∷◌, map}
 use mathlib.Core.Logic.{⊎_elim}
-use Prim.Native.Nat.{ℕ, zero, suc, ◌+◌, ◌-◌, ◌≤◌, ◌<◌}
+use Prim.Native.Nat.{ℕ, zero, suc, ◌+◌, ◌≤◌, ◌<◌}
 use native.Mathlib.Nat.{le_of_suc-le-suc, not-suc-le-zero, eq-or-lt_of_le}
 use native.Mathlib.Omega.{arith}
-use borrow.Author.Count.{below_none, below_more}
-use borrow.Author.Rules.{rules}
+use borrow.Author.Count.{below_more}
 use borrow.Author.Tests.{le-leb, lt-leb}
 use lib.ListN.{length, get_or, get_or-map}
 use Rattle.rules.specs.Tolerance.{row, table14_h, difference_for}
@@ -64,4 +63,3 @@ module _ (average i below : ℕ) (counted : Counted average i below) where
 
   pub found : i ≡ 57 → average ≤ 501 → difference_for table14_h average ≡ (get_or table14_h below (row 0 0)).tolerated
   found last inside = first_row table14_h average below (omega arith) counted.low (reached (rw last inside))
-

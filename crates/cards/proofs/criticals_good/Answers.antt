@@ -1,6 +1,5 @@
 -- `cards::criticals_good` meets its contract.
 use borrow.Author.Rules.{rules}
-use Prim.Native.Nat.{◌-◌}
 use Rattle.rules.specs.Cards.{criticals_good}
 use mathlib.Core.Path.{refl}
 use Rattle.cards.proofs.Walks.{criticals_more}

@@ -1,6 +1,5 @@
 -- `cards::rows_good` meets its contract.
 use borrow.Author.Rules.{rules}
-use Prim.Native.Nat.{◌-◌}
 use Rattle.rules.specs.Cards.{rows_good}
 use mathlib.Core.Path.{refl}
 use Rattle.cards.proofs.Walks.{rows_more}

@@ -1,6 +1,5 @@
 -- `cutter::eight_digits` meets its contract.
 use mathlib.Core.Path.{refl}
-use Prim.Native.Nat.{◌-◌}
 use native.Mathlib.Omega.{arith}
 use Rattle.rules.specs.Fields.{is_digit}
 use Rattle.cutter.specs.Runs.{all_pass}

@@ -1,10 +1,7 @@
 -- `decimal_words::number` meets its contract: `number` is that of the first i bytes, which are digits. Assumes nothing.
 use mathlib.Core.Path.{refl, sym, ◌∙◌}
-use mathlib.Core.Bool.{true}
-use Prim.Native.Nat.{◌-◌}
 use borrow.Author.Rules.{rules}
 use borrow.Author.Tests.{not-true, not-false}
-use Rattle.rules.specs.Decimals.{is_decimal}
 use Rattle.decimal_words.proofs.WordLaws.{decimal_end, decimal_no, decimal_yes, value_none, capped_more, value_whole, word_other, word_number}
 use Rattle.decimal_words.proofs.number.Goals as goal
 
@@ -13,17 +10,15 @@ loop-i-init c = (search rules, (search rules, (refl, rw value_none)))
 
 pub returns-then-not-is_decimal : goal.returns-then-not-is_decimal
 returns-then-not-is_decimal c =
-    let at = c in
-    word_other _ at.loop-i.invariant.0
-    (at.loop-i.invariant.1.1.0 ∙ decimal_no _ _ at.loop-i-test.true (sym c.is_decimal.ensures ∙ not-true _ c.if-not-is_decimal.true-raw))
+    word_other _ c.loop-i.invariant.0
+    (c.loop-i.invariant.1.1.0 ∙ decimal_no _ _ c.loop-i-test.true (sym c.is_decimal.ensures ∙ not-true _ c.if-not-is_decimal.true-raw))
 
 pub loop-i-preserved : goal.loop-i-preserved
 loop-i-preserved c =
-    let test = c in
-    let so = test.loop-i.invariant.1.1 in
+    let so = c.loop-i.invariant.1.1 in
     let digit = sym c.is_decimal.ensures ∙ not-false _ c.if-not-is_decimal.false-raw in
-    let value = c.with_digit-number.ensures ∙ capped_more _ _ _ test.loop-i-test.true so.1 in
-    (search rules, (search rules, (so.0 ∙ decimal_yes _ _ test.loop-i-test.true digit, value)))
+    let value = c.with_digit-number.ensures ∙ capped_more _ _ _ c.loop-i-test.true so.1 in
+    (search rules, (search rules, (so.0 ∙ decimal_yes _ _ c.loop-i-test.true digit, value)))
 
 pub returns : goal.returns
 returns c =

@@ -8,9 +8,7 @@ use Rattle.findings.proofs.mean.Goals as goal
 pub returns : goal.returns
 unfolding mean_of
 returns c =
-    let scaled = c in
-    let start = scaled in
-    let f = start.args.f in
-    let scale = scaled.mean_scale in
-    let w = mean_workable scale.result f.sum f.count scale.ensures.1 start.requires (omega arith) (omega arith) in
+    let f = c.args.f in
+    let scale = c.mean_scale in
+    let w = mean_workable scale.result f.sum f.count scale.ensures.1 c.requires (omega arith) (omega arith) in
     rw (c.divide-d.ensures, w, scale.ensures.0) refl

@@ -10,34 +10,22 @@ use Rattle.findings.proofs.of_figures.Goals as goal
 -- the printed mean has room where S has
 pub overflow_cast-printed : goal.overflow_cast-printed
 overflow_cast-printed c =
-    let scale = c in
-    let mean = scale in
-    let start = mean in
-    let h : scale.mean_scale-scale.result ≤ 100 = scale.mean_scale-scale.ensures.1 in
-    omega (arith, ap (λ (r : Rounded). r.nearest) mean.mean-mean.ensures, mean_most start.args.a start.args.f start.requires.served (rw (← scale.mean_scale-scale.ensures.0) h))
+    let h : c.mean_scale-scale.result ≤ 100 = c.mean_scale-scale.ensures.1 in
+    omega (arith, ap (λ (r : Rounded). r.nearest) c.mean-mean.ensures, mean_most c.args.a c.args.f c.requires.served (rw (← c.mean_scale-scale.ensures.0) h))
 
 pub returns-then-is_void : goal.returns-then-is_void
 returns-then-is_void c =
-    let test = c in
-    let mean = test in
-    void_found _ _ _ _ _ _ _ _ mean.mean_places-places.ensures.0 mean.mean-mean.ensures test.is_void.ensures c.if-is_void.true
+    void_found _ _ _ _ _ _ _ _ c.mean_places-places.ensures.0 c.mean-mean.ensures c.is_void.ensures c.if-is_void.true
     c.no_value.ensures c.no_value-then-is_void.ensures
 
 pub h_value-h-requires : goal.h_value-h-requires
 h_value-h-requires c =
-    let test = c in
-    let facts = test.requires in
-    let worked = sym test.is_void.ensures ∙ c.if-is_void.false in
+    let facts = c.requires in
+    let worked = sym c.is_void.ensures ∙ c.if-is_void.false in
     rw c.ratio-q.ensures (h_workable _ facts.served _ facts.head _ worked)
 
 pub returns : goal.returns
 returns c =
-    let r = c in
-    let h = r in
-    let ratio = h in
-    let test = ratio in
-    let scale = test in
-    let mean = scale in
-    values_found _ _ _ _ _ _ _ _ mean.mean_places-places.ensures.0 mean.mean-mean.ensures test.is_void.ensures _ _ _ _ _ ratio.if-is_void.false
-    mean.requires.rows ratio.ratio-q.ensures h.critical_at.ensures h.h_value-h.ensures
-    scale.mean_scale-scale.ensures.0 r.tolerated_for.ensures r.r_value-r.ensures c.together.ensures
+    values_found _ _ _ _ _ _ _ _ c.mean_places-places.ensures.0 c.mean-mean.ensures c.is_void.ensures _ _ _ _ _ c.if-is_void.false
+    c.requires.rows c.ratio-q.ensures c.critical_at.ensures c.h_value-h.ensures
+    c.mean_scale-scale.ensures.0 c.tolerated_for.ensures c.r_value-r.ensures c.together.ensures

@@ -12,9 +12,9 @@ returns-then-not-takes c l =
 pub returns-then-not-head_good : goal.returns-then-not-head_good
 unfolding card_step
 returns-then-not-head_good c l =
-    let turn = c in let may = passed turn.takes.ensures turn.if-not-takes.false-raw in record { right = goes_past _ may ∙ refused_here _ (not_passed c.head_good.ensures c.if-not-head_good.true-raw); kept = refl; begins_not = refl }
+    let may = passed c.takes.ensures c.if-not-takes.false-raw in record { right = goes_past _ may ∙ refused_here _ (not_passed c.head_good.ensures c.if-not-head_good.true-raw); kept = refl; begins_not = refl }
 
 pub returns : goal.returns
 unfolding card_step
 returns c l =
-    let turn = c in let may = passed turn.takes.ensures turn.if-not-takes.false-raw in record { right = goes_past _ may ∙ goes_past _ (passed c.head_good.ensures c.if-not-head_good.false-raw); unopened = refl }
+    let may = passed c.takes.ensures c.if-not-takes.false-raw in record { right = goes_past _ may ∙ goes_past _ (passed c.head_good.ensures c.if-not-head_good.false-raw); unopened = refl }

@@ -12,9 +12,9 @@ returns-then-not-takes c l =
 pub returns-then-not-lot_good : goal.returns-then-not-lot_good
 unfolding lot_step
 returns-then-not-lot_good c l =
-    let turn = c in let may = passed turn.takes.ensures turn.if-not-takes.false-raw in record { right = goes_past _ may ∙ refused_here _ (not_passed c.lot_good.ensures c.if-not-lot_good.true-raw); kept = refl; begins_not = refl }
+    let may = passed c.takes.ensures c.if-not-takes.false-raw in record { right = goes_past _ may ∙ refused_here _ (not_passed c.lot_good.ensures c.if-not-lot_good.true-raw); kept = refl; begins_not = refl }
 
 pub returns : goal.returns
 unfolding lot_step
 returns c l =
-    let good = c in let turn = good in let may = passed turn.takes.ensures turn.if-not-takes.false-raw in record { right = goes_past _ may ∙ goes_past _ (passed good.lot_good.ensures good.if-not-lot_good.false-raw); unopened = refl }
+    let may = passed c.takes.ensures c.if-not-takes.false-raw in record { right = goes_past _ may ∙ goes_past _ (passed c.lot_good.ensures c.if-not-lot_good.false-raw); unopened = refl }

@@ -14,24 +14,19 @@ returns-then-not-takes c l = record { right = refused_here _ (not_passed c.takes
 pub returns-then-not-row_good : goal.returns-then-not-row_good
 unfolding range_step
 returns-then-not-row_good c l =
-    let turn = c in
-    let may = passed turn.takes.ensures turn.if-not-takes.false-raw in
+    let may = passed c.takes.ensures c.if-not-takes.false-raw in
     record { right = goes_past _ may ∙ refused_here _ (not_passed c.row_good.ensures c.if-not-row_good.true-raw); kept = refl; begins_not = refl }
 
 pub returns-then-at-ge-MOST_ROWS : goal.returns-then-at-ge-MOST_ROWS
 unfolding range_step
 returns-then-at-ge-MOST_ROWS c l =
-    let row = c in
-    let turn = row in
-    let may = passed turn.takes.ensures turn.if-not-takes.false-raw in
-    let good = passed row.row_good.ensures row.if-not-row_good.false-raw in
-    refused_with CardFull {p = turn.args.p} (goes_past _ may ∙ (goes_past _ good ∙ refused_here _ (le-ltb _ _ c.if-at-ge-MOST_ROWS.true))) refl
+    let may = passed c.takes.ensures c.if-not-takes.false-raw in
+    let good = passed c.row_good.ensures c.if-not-row_good.false-raw in
+    refused_with CardFull {p = c.args.p} (goes_past _ may ∙ (goes_past _ good ∙ refused_here _ (le-ltb _ _ c.if-at-ge-MOST_ROWS.true))) refl
 
 pub returns : goal.returns
 unfolding range_step
 returns c l =
-    let row = c in
-    let turn = row in
-    let may = passed turn.takes.ensures turn.if-not-takes.false-raw in
-    let good = passed row.row_good.ensures row.if-not-row_good.false-raw in
+    let may = passed c.takes.ensures c.if-not-takes.false-raw in
+    let good = passed c.row_good.ensures c.if-not-row_good.false-raw in
     record { right = goes_past _ may ∙ (goes_past _ good ∙ goes_past _ (lt-ltb _ _ c.if-at-ge-MOST_ROWS.false)); unopened = refl }

@@ -1,5 +1,4 @@
 -- `held_lists::is_held` meets its promise: the loop keeps whether one of the places passed has the container. Assumes nothing.
-use Prim.Native.Nat.{◌-◌}
 use mathlib.Core.Path.{refl}
 use Rattle.held_lists.specs.Places.{stored}
 use Rattle.held_lists.proofs.Stored.{held_turn}

@@ -1,5 +1,4 @@
 -- `held_lists::lay_behind` meets its promise: the loop has laid the places passed. Assumes nothing.
-use Prim.Native.Nat.{◌-◌}
 use mathlib.Core.Path.{refl}
 use native.Mathlib.Omega.{arith}
 use Rattle.held_lists.specs.Places.{laid}

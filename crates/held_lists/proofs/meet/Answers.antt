@@ -1,5 +1,4 @@
 -- `held_lists::meet` meets its promise: the loop keeps whether one of the places passed is held. Assumes nothing.
-use Prim.Native.Nat.{◌-◌}
 use mathlib.Core.Path.{refl}
 use Rattle.held_lists.specs.Places.{meets}
 use Rattle.held_lists.proofs.Meeting.{meets_turn}

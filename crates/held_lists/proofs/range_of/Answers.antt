@@ -1,5 +1,5 @@
 -- `held_lists::range_of` meets its promise: the loop keeps the two ends of the places passed. Assumes nothing.
-use Prim.Native.Nat.{◌+◌, ◌-◌, min, max}
+use Prim.Native.Nat.{◌+◌, min, max}
 use mathlib.Core.Path.{◌≡◌, refl, ◌∙◌}
 use native.Mathlib.Omega.{arith}
 use Rattle.rules.specs.Limits.{most_held}

@@ -5,5 +5,4 @@ use Rattle.host.proofs.gelvorin_enter.Goals as goal
 
 pub returns : goal.returns
 returns c =
-    let called = c in
-    call_code_lem called.enter.result called.enter.ensures (enter_few _ _ _ _) c.call_code.ensures
+    call_code_lem c.enter.result c.enter.ensures (enter_few _ _ _ _) c.call_code.ensures

@@ -5,5 +5,4 @@ use Rattle.host.proofs.gelvorin_enter_list.Goals as goal
 
 pub returns : goal.returns
 returns c =
-    let called = c in
-    call_code_lem called.enter_list.result called.enter_list.ensures (list_lines_few _ _ _) c.call_code.ensures
+    call_code_lem c.enter_list.result c.enter_list.ensures (list_lines_few _ _ _) c.call_code.ensures

@@ -10,11 +10,8 @@ use Rattle.host.proofs.gelvorin_tenths.Goals as goal
 
 pub returns : goal.returns
 returns c =
-    let answer = c in
-    let tenths = answer in
-    let float = tenths in
-    let bits = float.args.bits in
+    let bits = c.args.bits in
     c.answer_code.ensures
     ∙ ap answer_code
-    (answer.weight_answer.ensures
-    ∙ ap weight_answer (tenths.tenths.ensures ∙ ap (λ (w : Float). tenths_of (to_bits binary32 w)) float.float.ensures ∙ bits_back bits (search rules)))
+    (c.weight_answer.ensures
+    ∙ ap weight_answer (c.tenths.ensures ∙ ap (λ (w : Float). tenths_of (to_bits binary32 w)) c.float.ensures ∙ bits_back bits (search rules)))

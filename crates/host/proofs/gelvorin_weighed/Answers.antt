@@ -10,14 +10,11 @@ use Rattle.host.proofs.gelvorin_weighed.Goals as goal
 
 pub returns : goal.returns
 returns c =
-    let answer = c in
-    let weigh = answer in
-    let second = weigh in
-    let a = second.args in
+    let a = c.args in
     c.answer_code.ensures
     ∙ ap answer_code
-    (answer.share_answer.ensures
+    (c.share_answer.ensures
     ∙ ap share_answer
-    (weigh.weighed.ensures
-    ∙ ap₂ (λ (v w : Float). weighed_of a.status (to_bits binary32 v) (to_bits binary32 w)) second.float.ensures second.float-2.ensures
+    (c.weighed.ensures
+    ∙ ap₂ (λ (v w : Float). weighed_of a.status (to_bits binary32 v) (to_bits binary32 w)) c.float.ensures c.float-2.ensures
     ∙ weighed_back a.status a.component a.remainder (search rules) (search rules)))

@@ -5,5 +5,4 @@ use Rattle.host.proofs.gelvorin_withdraw.Goals as goal
 
 pub returns : goal.returns
 returns c =
-    let called = c in
-    call_code_lem called.withdraw.result called.withdraw.ensures (withdraw_few _ _ _) c.call_code.ensures
+    call_code_lem c.withdraw.result c.withdraw.ensures (withdraw_few _ _ _) c.call_code.ensures

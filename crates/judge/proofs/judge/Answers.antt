@@ -6,26 +6,19 @@ use Rattle.judge.proofs.judge.Goals as goal
 
 pub returns-in-Refused : goal.returns-in-Refused
 returns-in-Refused c =
-    let answer = c in
-    judged_refused _ _ answer.read-reading.ensures c.in-Refused.is c.print_refused.ensures
+    judged_refused _ _ c.read-reading.ensures c.in-Refused.is c.print_refused.ensures
 
 pub returns-in-Length : goal.returns-in-Length
 returns-in-Length c =
-    let report = c in
-    let answer = report in
     let length = c.in-Length.ensures in
-    judged_text _ _ answer.read-reading.ensures c.in-Accepted.is length (eqb-false 0 15 refl)
+    judged_text _ _ c.read-reading.ensures c.in-Accepted.is length (eqb-false 0 15 refl)
 
 pub returns-in-TooFew : goal.returns-in-TooFew
 returns-in-TooFew c =
-    let report = c in
-    let answer = report in
     let few = c.in-TooFew.ensures in
-    judged_few _ _ answer.read-reading.ensures c.in-Accepted.is few refl c.print_refused-in-TooFew.ensures
+    judged_few _ _ c.read-reading.ensures c.in-Accepted.is few refl c.print_refused-in-TooFew.ensures
 
 pub returns-in-BufferShort : goal.returns-in-BufferShort
 returns-in-BufferShort c =
-    let report = c in
-    let answer = report in
     let short = c.in-BufferShort.ensures in
-    judged_text _ _ answer.read-reading.ensures c.in-Accepted.is short (eqb-false 16 15 refl)
+    judged_text _ _ c.read-reading.ensures c.in-Accepted.is short (eqb-false 16 15 refl)

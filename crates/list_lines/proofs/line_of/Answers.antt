@@ -8,7 +8,6 @@ returns-then-p-line c = no_comma _ _ _ c.first_from-p.ensures.0 c.if-p-line.true
 
 pub returns : goal.returns
 returns c =
-    let test = c in
-    let place = test.first_from-p in
+    let place = c.first_from-p in
     c.entry_of.ensures
-    ∙ with_comma _ _ _ place.ensures.0 _ _ place.ensures.1 test.if-p-line.false c.plain.ensures c.value_of.ensures
+    ∙ with_comma _ _ _ place.ensures.0 _ _ place.ensures.1 c.if-p-line.false c.plain.ensures c.value_of.ensures

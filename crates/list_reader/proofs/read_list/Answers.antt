@@ -8,5 +8,4 @@ returns-then-number-eq0 c = list_accepted _ _ _ _ _ c.take_lines-taken.ensures (
 
 pub returns-else-number-eq0 : goal.returns-else-number-eq0
 returns-else-number-eq0 c =
-    let test = c in
-    list_refused _ _ _ _ _ test.take_lines-taken.ensures (λ z. test.if-number-eq0.false (test.number.ensures ∙ z))
+    list_refused _ _ _ _ _ c.take_lines-taken.ensures (λ z. c.if-number-eq0.false (c.number.ensures ∙ z))

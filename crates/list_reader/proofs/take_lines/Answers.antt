@@ -9,24 +9,19 @@ loop-at-init c = reached_start _ _ _ _ _
 
 pub returns-then-list-end : goal.returns-then-list-end
 returns-then-list-end c =
-    let test = c in
     let read = read_by _ _ _ _ _ c.of.ensures c.line_at-l.ensures in
-    taken_unended _ _ _ _ _ _ _ _ _ _ test.loop-at.invariant _ read test.loop-at-test.true c.if-list-end.true
+    taken_unended _ _ _ _ _ _ _ _ _ _ c.loop-at.invariant _ read c.loop-at-test.true c.if-list-end.true
 
 pub returns-then-number-ne0 : goal.returns-then-number-ne0
 returns-then-number-ne0 c =
-    let whole = c in
-    let test = whole in
-    let read = read_by _ _ _ _ _ whole.of.ensures whole.line_at-l.ensures in
-    taken_stopped _ _ _ _ _ _ _ _ _ _ test.loop-at.invariant _ read test.loop-at-test.true whole.if-list-end.false _ _ _
+    let read = read_by _ _ _ _ _ c.of.ensures c.line_at-l.ensures in
+    taken_stopped _ _ _ _ _ _ _ _ _ _ c.loop-at.invariant _ read c.loop-at-test.true c.if-list-end.false _ _ _
     c.enter_entry-e.ensures (λ z. c.if-number-ne0.true (c.number.ensures ∙ z))
 
 pub loop-at-preserved : goal.loop-at-preserved
 loop-at-preserved c =
-    let whole = c in
-    let test = whole in
-    let read = read_by _ _ _ _ _ whole.of.ensures whole.line_at-l.ensures in
-    reached_more _ _ _ _ _ _ _ _ _ _ test.loop-at.invariant _ read test.loop-at-test.true whole.if-list-end.false _ _ _
+    let read = read_by _ _ _ _ _ c.of.ensures c.line_at-l.ensures in
+    reached_more _ _ _ _ _ _ _ _ _ _ c.loop-at.invariant _ read c.loop-at-test.true c.if-list-end.false _ _ _
     c.enter_entry-e.ensures (sym c.number.ensures ∙ c.if-number-ne0.false)
 
 pub returns : goal.returns

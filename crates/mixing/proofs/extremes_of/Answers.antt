@@ -26,6 +26,5 @@ loop-i-init c = (omega arith, rw (drop-length c.args.results.now) (refl, refl))
 
 pub loop-i-preserved : goal.loop-i-preserved
 loop-i-preserved c =
-    let test = c in
-    let so : _ = one_more _ _ _ _ test.loop-i-test.true test.loop-i.invariant.0 test.loop-i.invariant.1 in
+    let so : _ = one_more _ _ _ _ c.loop-i-test.true c.loop-i.invariant.0 c.loop-i.invariant.1 in
     (omega arith, (c.larger-largest.ensures ∙ so.0, c.smaller-smallest.ensures ∙ so.1))

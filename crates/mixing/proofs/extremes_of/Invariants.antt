@@ -1,7 +1,7 @@
 -- `mixing::extremes_of` meets its contract: each of the two is that of the results from i on. Assumes nothing.
 use mathlib.Core.Path.{◌≡◌}
 use mathlib.Core.List.{List}
-use Prim.Native.Nat.{ℕ, ◌-◌, ◌≤◌}
+use Prim.Native.Nat.{ℕ, ◌≤◌}
 use lib.ListN.{length, drop}
 use Rattle.rules.specs.Mixing.{largest_of, smallest_of}
 use Rattle.mixing.proofs.extremes_of.Given as goal

@@ -7,17 +7,12 @@ pub returns : goal.returns
 unfolding fault_line
 returns c =
     let p₇ = c.bytes in
-    let c₆ = c in
-    let p₆ = c₆.number-g in
-    let c₅ = c₆ in
-    let p₅ = c₅.bytes-f in
-    let c₄ = c₅ in
-    let p₄ = c₄.number-d in
-    let c₃ = c₄ in
-    let p₃ = c₃.bytes-c in
-    let c₂ = c₃ in
-    let p₂ = c₂.number-b in
-    let p₁ = c₂.bytes-a in
+    let p₆ = c.number-g in
+    let p₅ = c.bytes-f in
+    let p₄ = c.number-d in
+    let p₃ = c.bytes-c in
+    let p₂ = c.number-b in
+    let p₁ = c.bytes-a in
     let first = piece _ _ _ _ _ p₁.ensures p₁.auto.buf in
     let second = then_piece _ _ _ _ _ _ _ _ first p₂.ensures p₂.auto.buf in
     let third = then_piece _ _ _ _ _ _ _ _ second p₃.ensures p₃.auto.buf in

@@ -8,4 +8,4 @@ returns-then-buf-fault_size c =
 
 pub returns : goal.returns
 returns c =
-    let test = c in rw (← test.number-number.ensures) (line_laid test.fault_size.ensures test.if-buf-fault_size.false c.fault_line.ensures)
+    rw (← c.number-number.ensures) (line_laid c.fault_size.ensures c.if-buf-fault_size.false c.fault_line.ensures)

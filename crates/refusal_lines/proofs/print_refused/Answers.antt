@@ -8,4 +8,4 @@ returns-then-buf-refused_size c =
 
 pub returns : goal.returns
 returns c =
-    let test = c in rw (← test.number-number.ensures) (line_laid test.refused_size.ensures test.if-buf-refused_size.false c.refused_line.ensures)
+    rw (← c.number-number.ensures) (line_laid c.refused_size.ensures c.if-buf-refused_size.false c.refused_line.ensures)

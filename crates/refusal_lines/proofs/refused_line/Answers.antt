@@ -7,13 +7,10 @@ pub returns : goal.returns
 unfolding refused_line
 returns c =
     let p₅ = c.bytes in
-    let c₄ = c in
-    let p₄ = c₄.number-d in
-    let c₃ = c₄ in
-    let p₃ = c₃.bytes-c in
-    let c₂ = c₃ in
-    let p₂ = c₂.number-b in
-    let p₁ = c₂.bytes-a in
+    let p₄ = c.number-d in
+    let p₃ = c.bytes-c in
+    let p₂ = c.number-b in
+    let p₁ = c.bytes-a in
     let first = piece _ _ _ _ _ p₁.ensures p₁.auto.buf in
     let second = then_piece _ _ _ _ _ _ _ _ first p₂.ensures p₂.auto.buf in
     let third = then_piece _ _ _ _ _ _ _ _ second p₃.ensures p₃.auto.buf in

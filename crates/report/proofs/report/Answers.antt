@@ -4,12 +4,9 @@ use Rattle.report.proofs.report.Goals as goal
 
 pub returns-in-Reportable : goal.returns-in-Reportable
 returns-in-Reportable c =
-    let found = c in
     let lines = c.five_lines.ensures in
-    let of = found in
-    written of.args.t _ _ of.of.ensures found.of_lot.ensures _ _ _ _ c.in-Reportable.is lines
+    written c.args.t _ _ c.of.ensures c.of_lot.ensures _ _ _ _ c.in-Reportable.is lines
 
 pub returns-in-NotReportable : goal.returns-in-NotReportable
 returns-in-NotReportable c =
-    let of = c in
-    too_few of.args.t _ _ of.of.ensures c.of_lot.ensures _ c.in-NotReportable.is
+    too_few c.args.t _ _ c.of.ensures c.of_lot.ensures _ c.in-NotReportable.is

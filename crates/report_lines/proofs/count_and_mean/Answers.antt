@@ -8,6 +8,4 @@ use Rattle.report_lines.proofs.count_and_mean.Goals as goal
 pub returns : goal.returns
 unfolding mean_line
 returns c =
-    let mean = c in
-    let count = mean in
-    rw (count_is _) (then_line _ _ _ _ _ _ _ _ count.number_line-a.ensures refl mean.number_line.ensures)
+    rw (count_is _) (then_line _ _ _ _ _ _ _ _ c.number_line-a.ensures refl c.number_line.ensures)

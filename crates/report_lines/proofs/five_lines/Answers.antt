@@ -13,8 +13,7 @@ returns-then-buf-size c = sym (short_is _ _ (omega (arith, c.size.ensures, c.if-
 
 pub returns : goal.returns
 returns c =
-    let size = c in
-    let a = size.args in
-    let h : length (findings_text a.s) ≤ length a.buf.now = omega (arith, size.size.ensures, c.if-buf-size.false) in
+    let a = c.args in
+    let h : length (findings_text a.s) ≤ length a.buf.now = omega (arith, c.size.ensures, c.if-buf-size.false) in
     let w = c.lines.ensures.fits h in
     ap₂ wrote w.count w.text ∙ sym (fits_is _ _ h)

@@ -6,6 +6,4 @@ use Rattle.report_lines.proofs.lines.Goals as goal
 
 pub returns : goal.returns
 returns c =
-    let values = c in
-    let count = values in
-    rw (parts_are _) (then_line _ _ _ _ _ _ _ _ count.count_and_mean-a.ensures refl values.values_and_lot.ensures)
+    rw (parts_are _) (then_line _ _ _ _ _ _ _ _ c.count_and_mean-a.ensures refl c.values_and_lot.ensures)

@@ -5,6 +5,4 @@ use Rattle.report_lines.proofs.two_values.Goals as goal
 
 pub returns : goal.returns
 returns c =
-    let r = c in
-    let h = r in
-    then_line _ _ _ _ _ _ _ _ h.value_line-a.ensures refl r.value_line.ensures
+    then_line _ _ _ _ _ _ _ _ c.value_line-a.ensures refl c.value_line.ensures

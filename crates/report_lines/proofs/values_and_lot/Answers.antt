@@ -5,6 +5,4 @@ use Rattle.report_lines.proofs.values_and_lot.Goals as goal
 
 pub returns : goal.returns
 returns c =
-    let lot = c in
-    let values = lot in
-    then_line _ _ _ _ _ _ _ _ values.two_values-a.ensures refl lot.lot_line.ensures
+    then_line _ _ _ _ _ _ _ _ c.two_values-a.ensures refl c.lot_line.ensures

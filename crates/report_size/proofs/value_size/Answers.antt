@@ -11,6 +11,5 @@ returns-then-void c = rw c.if-void.true (refl, omega arith)
 
 pub returns : goal.returns
 returns c =
-    let mark = c in
-    rw mark.if-void.false
-    (rw (mark.number_size.ensures.0, mark.mark_size.ensures.0, c.limit_size.ensures.0) (value_length _), omega arith)
+    rw c.if-void.false
+    (rw (c.number_size.ensures.0, c.mark_size.ensures.0, c.limit_size.ensures.0) (value_length _), omega arith)

@@ -14,7 +14,5 @@ returns-then-not-takes c =
 pub returns : goal.returns
 unfolding result_step
 returns c =
-    let enter = c in
-    let turn = enter in
     rw c.stored.ensures
-    (stored_line_lem 5 _ turn.args.p enter.enter_in.ensures (passed turn.takes.ensures turn.if-not-takes.false-raw) (λ s. refl) refl refl)
+    (stored_line_lem 5 _ c.args.p c.enter_in.ensures (passed c.takes.ensures c.if-not-takes.false-raw) (λ s. refl) refl refl)

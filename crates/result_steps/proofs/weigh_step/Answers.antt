@@ -14,7 +14,5 @@ returns-then-not-takes c =
 pub returns : goal.returns
 unfolding balance_step
 returns c =
-    let weigh = c in
-    let turn = weigh in
     rw c.stored.ensures
-    (stored_line_lem 7 _ turn.args.p weigh.weigh_in.ensures (passed turn.takes.ensures turn.if-not-takes.false-raw) (λ s. refl) refl refl)
+    (stored_line_lem 7 _ c.args.p c.weigh_in.ensures (passed c.takes.ensures c.if-not-takes.false-raw) (λ s. refl) refl refl)

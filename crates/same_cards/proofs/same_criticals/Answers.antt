@@ -1,5 +1,4 @@
 -- `same_cards::same_criticals` meets its contract.
-use Prim.Native.Nat.{◌-◌}
 use borrow.Author.Rules.{rules}
 use Rattle.rules.specs.Cards.{agree}
 use mathlib.Core.Path.{refl}

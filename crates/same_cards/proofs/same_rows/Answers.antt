@@ -1,6 +1,5 @@
 -- `same_cards::same_rows` meets its contract.
 use borrow.Author.Rules.{rules}
-use Prim.Native.Nat.{◌-◌}
 use Rattle.rules.specs.Cards.{same_rows}
 use mathlib.Core.Path.{refl}
 use Rattle.same_cards.proofs.Walks.{rows_more}

@@ -1,5 +1,4 @@
 -- `sampling::evenly` meets its contract: the multiple is below the samples and the containers together. Assumes nothing.
-use Prim.Native.Nat.{◌-◌}
 use borrow.Author.Tests.{le-leb, lt-leb}
 use Rattle.rules.specs.Sampling.{raised}
 use Rattle.sampling.proofs.evenly.Goals as goal

@@ -14,5 +14,4 @@ returns-then-kilograms-le-UNIT c = rw (le-ltb _ _ c.if-kilograms-lt-SMALL.false,
 pub returns : goal.returns
 unfolding samples_of
 returns c =
-    let at = c in
-    rw (le-ltb _ _ at.if-kilograms-lt-SMALL.false, lt-leb _ _ at.if-kilograms-le-UNIT.false) (cc)
+    rw (le-ltb _ _ c.if-kilograms-lt-SMALL.false, lt-leb _ _ c.if-kilograms-le-UNIT.false) (cc)

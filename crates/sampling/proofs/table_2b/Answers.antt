@@ -11,17 +11,14 @@ returns-then-weight-le500 c = (rw (le-leb _ _ c.if-weight-le500.true), omega ari
 pub returns-then-weight-le3000 : goal.returns-then-weight-le3000
 unfolding table2_b
 returns-then-weight-le3000 c =
-    let at = c in
-    (rw (lt-leb _ _ at.if-weight-le500.false, le-leb _ _ at.if-weight-le3000.true) (cc), omega arith)
+    (rw (lt-leb _ _ c.if-weight-le500.false, le-leb _ _ c.if-weight-le3000.true) (cc), omega arith)
 
 pub returns-then-weight-le20000 : goal.returns-then-weight-le20000
 unfolding table2_b
 returns-then-weight-le20000 c =
-    let at = c in
-    (rw (lt-leb _ _ at.if-weight-le500.false, lt-leb _ _ at.if-weight-le3000.false, le-leb _ _ at.if-weight-le20000.true) (cc), omega arith)
+    (rw (lt-leb _ _ c.if-weight-le500.false, lt-leb _ _ c.if-weight-le3000.false, le-leb _ _ c.if-weight-le20000.true) (cc), omega arith)
 
 pub returns : goal.returns
 unfolding table2_b
 returns c =
-    let at = c in
-    (rw (lt-leb _ _ at.if-weight-le500.false, lt-leb _ _ at.if-weight-le3000.false, lt-leb _ _ at.if-weight-le20000.false) (cc), omega arith)
+    (rw (lt-leb _ _ c.if-weight-le500.false, lt-leb _ _ c.if-weight-le3000.false, lt-leb _ _ c.if-weight-le20000.false) (cc), omega arith)

@@ -7,7 +7,5 @@ returns-in-Refused c = enter_fault _ _ c.read-reading.ensures c.in-Refused.is _ 
 
 pub returns-in-Accepted : goal.returns-in-Accepted
 returns-in-Accepted c =
-    let call = c in
-    let told = call in
-    entered_is _ _ told.read-reading.ensures c.in-Accepted.is _ _ call.container.ensures call.result.ensures call.enter-entered.ensures
+    entered_is _ _ c.read-reading.ensures c.in-Accepted.is _ _ c.container.ensures c.result.ensures c.enter-entered.ensures
     c.after_call.ensures

@@ -7,6 +7,4 @@ returns-in-Refused c = list_fault _ _ c.read-reading.ensures c.in-Refused.is _
 
 pub returns-in-Accepted : goal.returns-in-Accepted
 returns-in-Accepted c =
-    let call = c in
-    let told = call in
-    listed_is _ _ _ told.read-reading.ensures c.in-Accepted.is call.read_list-listing.ensures c.after_call.ensures
+    listed_is _ _ _ c.read-reading.ensures c.in-Accepted.is c.read_list-listing.ensures c.after_call.ensures

@@ -7,6 +7,4 @@ returns-in-Refused c = withdraw_fault _ _ c.read-reading.ensures c.in-Refused.is
 
 pub returns-in-Accepted : goal.returns-in-Accepted
 returns-in-Accepted c =
-    let call = c in
-    let told = call in
-    withdrawn_is _ _ told.read-reading.ensures c.in-Accepted.is _ call.container.ensures call.withdraw-withdrawn.ensures c.after_call.ensures
+    withdrawn_is _ _ c.read-reading.ensures c.in-Accepted.is _ c.container.ensures c.withdraw-withdrawn.ensures c.after_call.ensures

@@ -11,9 +11,8 @@ use Rattle.tally.proofs.enter_in.Goals.{Then-number-eq0}
 -- there is room for one more
 room : (c : Then-number-eq0) → c.args.held < most_held
 room c =
-    let looked = c in
-    let a = looked.args in
-    enter_room a.lot a.containers.now [] a.held a.container a.x looked.enter_refusal-refusal.result looked.enter_refusal-refusal.ensures
+    let a = c.args in
+    enter_room a.lot a.containers.now [] a.held a.container a.x c.enter_refusal-refusal.result c.enter_refusal-refusal.ensures
     (sym c.number.ensures ∙ c.if-number-eq0.true)
 
 pub offset_bounds-containers-held : goal.offset_bounds-containers-held

@@ -4,11 +4,8 @@ use Rattle.tally.proofs.withdraw_in.Goals as goal
 
 pub returns-then-n-at : goal.returns-then-n-at
 returns-then-n-at c =
-    let found = c in
-    withdraws_not _ _ _ _ _ found.place_of-at.ensures _ found.least-n.ensures c.if-n-at.true
+    withdraws_not _ _ _ _ _ c.place_of-at.ensures _ c.least-n.ensures c.if-n-at.true
 
 pub returns : goal.returns
 returns c =
-    let test = c in
-    let found = test in
-    withdraws _ _ _ _ _ found.place_of-at.ensures _ found.least-n.ensures test.if-n-at.false
+    withdraws _ _ _ _ _ c.place_of-at.ensures _ c.least-n.ensures c.if-n-at.false

@@ -9,8 +9,9 @@ pub loop-i-preserved : goal.loop-i-preserved
 loop-i-preserved c =
     let top = ap (λ (r : Row). r.top) (at c.rows_14h-rows.ensures c.loop-i.i) in
     elim c.if-rows-i.branch [
-      then-rows-i w ↦ rw w.below-is (one_more _ _ _ c.loop-i.invariant c.loop-i-test.true (omega (arith, top, w.if-rows-i.true)))
-    | else-rows-i w ↦ rw w.below-is (no_more _ _ _ c.loop-i.invariant c.loop-i-test.true (omega (arith, top, w.if-rows-i.false))) ]
+      | then-rows-i w ↦ rw w.below-is (one_more _ _ _ c.loop-i.invariant c.loop-i-test.true (omega (arith, top, w.if-rows-i.true)))
+      | else-rows-i w ↦ rw w.below-is (no_more _ _ _ c.loop-i.invariant c.loop-i-test.true (omega (arith, top, w.if-rows-i.false)))
+    ]
 
 pub returns : goal.returns
 returns c =

@@ -9,9 +9,8 @@ loop-left-init c = (omega (arith, c.least-left.ensures), none_yet _ _ _)
 
 pub returns-then-serves : goal.returns-then-serves
 returns-then-serves c =
-    let test = c in
-    let loop = test.loop-left in
-    c.limit_at.ensures ∙ row_found _ _ _ _ _ _ loop.invariant.1 test.serves.ensures c.if-serves.true (omega arith)
+    let loop = c.loop-left in
+    c.limit_at.ensures ∙ row_found _ _ _ _ _ _ loop.invariant.1 c.serves.ensures c.if-serves.true (omega arith)
 
 pub loop-left-preserved : goal.loop-left-preserved
 loop-left-preserved c =

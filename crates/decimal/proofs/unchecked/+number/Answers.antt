@@ -1,5 +1,5 @@
 -- The digits of n / 10, and n's last one behind them.
-use Rattle.std.proofs.Common.{◌≡◌, ℕ, ◌+◌, ◌^◌, ◌<◌, ◌≤◌, ap, arith, length, length-append}
+use Rattle.std.proofs.Common.{◌≡◌, ℕ, ◌+◌, ◌^◌, ◌<◌, ap, arith, length, length-append}
 use Rattle.rules.specs.Text.{decimal as decimal_of}
 use Rattle.decimal.specs.Laying.{LaidAt}
 use Rattle.rules.proofs.TextLaws.{front, front_none, front_more, digits_are}
@@ -14,8 +14,9 @@ digits n h = simp length-append at (ap length (digits_are n h))
 -- where the ways meet, all digits but the last are laid
 joined : (t : ℕ) (c : Joined-n-ge10 t) → LaidAt (front c.args.n) c.args.at c.args.buf.now c.if-n-ge10.buf c.if-n-ge10.k
 joined t c = elim c.if-n-ge10.branch [
-    then-n-ge10 w ↦ rw (w.k-is, w.buf-is, front_more c.args.n w.if-n-ge10.true) w.number-k.ensures
-  | else-n-ge10 w ↦ rw (w.k-is, w.buf-is, front_none c.args.n w.if-n-ge10.false) (none_at _ _) ]
+  | then-n-ge10 w ↦ rw (w.k-is, w.buf-is, front_more c.args.n w.if-n-ge10.true) w.number-k.ensures
+  | else-n-ge10 w ↦ rw (w.k-is, w.buf-is, front_none c.args.n w.if-n-ge10.false) (none_at _ _)
+]
 
 pub number-k-requires : goal.number-k-requires
 number-k-requires t c = (omega arith, omega (arith, c.requires, digits c.args.n c.ranges.n.fits, ap length (front_more c.args.n c.if-n-ge10.true)))

@@ -1,5 +1,5 @@
 -- The digits but the last, and the last behind them.
-use Rattle.std.proofs.Common.{◌≡◌, ◌+◌, ◌-◌, ◌≤◌, ◌<◌, arith, length}
+use Rattle.std.proofs.Common.{◌≡◌, ◌+◌, ◌-◌, arith}
 use Rattle.rules.proofs.TextLaws.{no_places, more_places, length_places}
 use Rattle.decimal.proofs.LayingLaws.{none_at, more_at}
 use Rattle.decimal.proofs.unchecked.+places.Goals as goal

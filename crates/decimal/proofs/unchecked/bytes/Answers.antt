@@ -1,6 +1,5 @@
 -- `decimal::unchecked::bytes` meets its contract: after i turns the first i bytes are laid. Assumes nothing.
 use mathlib.Core.Path.{refl}
-use Prim.Native.Nat.{◌-◌}
 use native.Mathlib.Nat.{add-zero, add_assoc}
 use native.Mathlib.Numerals.{add-one}
 use native.Mathlib.Omega.{arith}
@@ -14,9 +13,8 @@ loop-i-init c = (omega arith, refl, rw add-zero (none_at _ _))
 
 pub loop-i-preserved : goal.loop-i-preserved
 loop-i-preserved c =
-    let s = c in
     let l = c.loop-i in
-    let text = s.args.text.now in
+    let text = c.args.text.now in
     let h = c.loop-i-test.true in (
       omega arith,
       simp length-set l.invariant.1,
