@@ -11,7 +11,7 @@ use std::io;
 use std::rt::Files;
 
 // How many cases there were, and how many came out as they should.
-#[derive(Drop)]
+#[derive(Clone, Copy)]
 struct Tried {
     right: u32,
     all: u32,

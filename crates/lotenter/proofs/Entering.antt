@@ -2,18 +2,18 @@
 use mathlib.Core.Path.{◌≡◌, refl, sym, ap, ◌∙◌}
 use mathlib.Core.Bool.{Bool, true, false, ◌||◌}
 use mathlib.Core.List.{List}
-use Prim.Native.Nat.{ℕ, ◌+◌, ◌≤◌}
+use Prim.Native.Nat.{ℕ, ◌≤◌}
 use native.Mathlib.Omega.{arith}
 use native.Mathlib.Decide.{ℕ_discrete}
 use lib.ListN.{length, take, length-append, length-drop}
 use lib.Seq.{take_at}
 use borrow.Author.Tests.{eq-eqb, ne_eqb, eqb-false}
-use Rattle.rules.specs.Numbers.{TextAnswer, number_of, printed_size, printed_answer}
+use Rattle.rules.specs.Numbers.{number_of, printed_size, printed_answer}
 use Rattle.rules.specs.Text.{laid, laid_in}
 use Rattle.rules.specs.Ledger.{Ledger}
 use Rattle.rules.specs.Reading.{SheetOutcome, accepted, refused, read_of}
 use Rattle.rules.specs.Writing.{sheet_of}
-use Rattle.rules.specs.ListReading.{Listed, list_on}
+use Rattle.rules.specs.ListReading.{list_on}
 use Rattle.rules.specs.OnSheets.{SheetAnswer, on_sheet_answer, call_on, enter_list_sheet}
 use Rattle.rules.specs.Printing.{fault_line}
 use Rattle.rules.specs.declared.OnSheet.{OnSheet}
@@ -22,7 +22,6 @@ use Rattle.rules.specs.declared.Printed.{Printed}
 use Rattle.rules.specs.declared.Refusal.{Refusal}
 use Rattle.rules.specs.declared.TextSize.{TextSize}
 use Rattle.rules.proofs.TextLaws.{length_decimal}
-use Rattle.buffers.specs.Counts.{IsPrefixLen}
 use Rattle.buffers.proofs.Counting.{prefix_len_of_le}
 use Rattle.decimal.specs.Laying.{LaysAt}
 use Rattle.program_input.proofs.Texts.{laid_text}

@@ -1,5 +1,5 @@
 -- A sheet with a list entered fits 4,096 bytes, and its lot was opened. Assumes nothing.
-use mathlib.Core.Path.{◌≡◌, refl, ap, ◌∙◌}
+use mathlib.Core.Path.{◌≡◌, refl}
 use mathlib.Core.List.{List, [], ◌∷◌}
 use Prim.Native.Nat.{ℕ, zero, suc, ◌+◌, ◌≤◌}
 use native.Mathlib.Omega.{arith}
@@ -17,7 +17,7 @@ use Rattle.rules.specs.Lines.{Line}
 use Rattle.rules.specs.Reading.{accepted, read_of}
 use Rattle.rules.specs.Writing.{sheet_of, write_on}
 use Rattle.rules.specs.Attributes.{attribute_of}
-use Rattle.rules.specs.ListReading.{Says, bad, says, line_says, line_on, Listed, enter_lines, list_on}
+use Rattle.rules.specs.ListReading.{Says, bad, says, line_says, line_on, enter_lines, list_on}
 use Rattle.rules.specs.declared.Lot.{Lot}
 use Rattle.rules.specs.declared.Card.{Card}
 use Rattle.rules.proofs.Tests.{and_right}
@@ -25,7 +25,7 @@ use Rattle.rules.proofs.TextLaws.{fits_is}
 use Rattle.rules.proofs.ContentLaws.{total_none}
 use Rattle.rules.proofs.CardLaws.{open_lot, open_rows}
 use Rattle.rules.proofs.LedgerLaws.{enter_tells, enter_held}
-use Rattle.rules.proofs.ListLaws.{line_step, lines_go, lines_stop, lines_over, line_held}
+use Rattle.rules.proofs.ListLaws.{line_step, lines_go, lines_stop, lines_over}
 use Rattle.reading_theorems.specs.Spelling.{Entry, Made, opens, enters}
 use Rattle.reading_theorems.proofs.Accepted.{accepted_sheet}
 use Rattle.reading_theorems.proofs.Spelt.{sheet_made}

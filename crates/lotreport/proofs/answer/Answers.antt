@@ -1,0 +1,11 @@
+use Rattle.std.proofs.Common.{arith}
+use Rattle.rules.specs.Printing.{printed_for}
+use Rattle.reading_theorems.proofs.Longest.{printed_most}
+use Rattle.program_input.proofs.Texts.{laid_text}
+use Rattle.lotreport.proofs.answer.Goals as goal
+
+pub returns : goal.returns
+unfolding printed_for
+returns c =
+    let laid = laid_text _ _ _ c.judge-printed.result _ c.printed_size.ensures c.judge-printed.ensures (omega (arith, printed_most c.sheet_of.result.now)) c.judge-printed.auto.buf in
+    record { by_index = λ input begins. rw (c.sheet_of.ensures input begins) at laid.0; prefix_len = laid.1 }
