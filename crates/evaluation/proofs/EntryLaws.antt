@@ -1,9 +1,8 @@
 -- What is counted over all containers of the lot is counted over the list of results. Assumes nothing.
-use Prim.Native.Nat.{ℕ, ◌+◌, min, max}
+use Prim.Native.Nat.{ℕ}
 use native.Mathlib.Omega.{arith}
 use mathlib.Core.Path.{◌≡◌, refl, sym, ap, ◌∙◌}
 use mathlib.Core.List.{List, [], ◌∷◌, ◌++◌}
-use Rattle.rules.specs.Limits.{highest_x, widest}
 use Rattle.rules.specs.Contents.{Content, Contents, holds, value, square}
 use Rattle.rules.specs.Figures.{figures}
 use Rattle.rules.specs.Ledger.{Ledger, containers}

@@ -1,6 +1,6 @@
 -- What the quicker way shows for the bytes of a sheet is what lotlist prints, and with a list what lotenter prints. Assumes nothing.
-use Prim.Native.Nat.{ℕ, ◌+◌, ◌<◌}
-use mathlib.Core.Bool.{Bool, true, false, ◌||◌}
+use Prim.Native.Nat.{ℕ, ◌+◌}
+use mathlib.Core.Bool.{Bool, true, false}
 use mathlib.Core.Path.{◌≡◌, refl, sym, ap, ◌∙◌}
 use mathlib.Core.List.{List, [], ◌∷◌, ◌++◌}
 use lib.Dec.{eqb, ltb}
@@ -10,9 +10,9 @@ use Rattle.rules.specs.Choice.{pick}
 use Rattle.rules.specs.Limits.{list_places}
 use Rattle.rules.specs.Lines.{Line, lines_of}
 use Rattle.rules.specs.Attributes.{attribute_of}
-use Rattle.rules.specs.Ledger.{Ledger, Judged, enter_on}
+use Rattle.rules.specs.Ledger.{Ledger, Judged}
 use Rattle.rules.specs.Reading.{SheetOutcome, accepted, refused, read_of}
-use Rattle.rules.specs.ListReading.{Says, bad, says, line_says, line_on, Listed, enter_lines, list_on}
+use Rattle.rules.specs.ListReading.{Says, bad, says, line_says, line_on, enter_lines, list_on}
 use Rattle.rules.specs.Printing.{listed, listed_for, fault_line, after_list, entered, entered_for, outcome_told, enter_prints}
 use Rattle.rules.specs.declared.Lot.{Lot}
 use Rattle.rules.specs.declared.Card.{Card}

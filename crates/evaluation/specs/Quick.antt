@@ -1,7 +1,7 @@
 -- What is printed for a sheet, worked out with the results as a list beside the state, and no further into the bytes than they matter.
 use Rattle.std.specs.Prelude.{ℕ, ◌+◌, Bool, true, false, List, [], ◌∷◌, ◌++◌, eqb, leb, ltb, length}
 use Rattle.std.specs.Float.Ieee.{of_fields, of_bits, to_bits}
-use Rattle.rules.specs.Choice.{pick, unless}
+use Rattle.rules.specs.Choice.{pick}
 use Rattle.rules.specs.Limits.{least_reported, most_digits}
 use Rattle.rules.specs.Contents.{is_held}
 use Rattle.rules.specs.Floats.{exact_of}

@@ -1,6 +1,6 @@
 -- `findings::of_lot` meets its contract. Assumes nothing.
 use mathlib.Core.Path.{refl, sym, ap, ◌∙◌}
-use mathlib.Core.Bool.{true, false}
+use mathlib.Core.Bool.{true}
 use borrow.Author.Tests.{lt-leb}
 use Rattle.findings.specs.declared.Found.TheVariants.{Reportable}
 use Rattle.findings.proofs.ReportableLaws.{count_in_order, is_reportable, found_is}

@@ -1,5 +1,4 @@
 -- `list_lines::first_from` meets its contract: no b stands from `at` up to i. Assumes nothing.
-use Prim.Native.Nat.{◌-◌}
 use borrow.Author.Rules.{rules}
 use Rattle.list_lines.proofs.LineLaws.{found_here, found_none, not_here}
 use Rattle.list_lines.proofs.first_from.Goals as goal

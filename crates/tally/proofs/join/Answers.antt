@@ -10,5 +10,6 @@ returns c =
     let look = join_checked c.args.t c.args.other _ c.alike.ensures _ c.join_refusal-refusal.ensures in
     let laid = c.lay_behind-after.ensures in
     elim c.if-number-eq0.branch [
-      then-number-eq0 w ↦ joined _ _ _ _ _ _ _ look laid _ c.with_lists.ensures (sym number ∙ w.if-number-eq0.true) w.joined-is
-    | else-number-eq0 w ↦ not_joined _ _ _ _ _ _ _ look laid _ c.with_lists.ensures (λ z. w.if-number-eq0.false (number ∙ z)) w.joined-is ]
+      | then-number-eq0 w ↦ joined _ _ _ _ _ _ _ look laid _ c.with_lists.ensures (sym number ∙ w.if-number-eq0.true) w.joined-is
+      | else-number-eq0 w ↦ not_joined _ _ _ _ _ _ _ look laid _ c.with_lists.ensures (λ z. w.if-number-eq0.false (number ∙ z)) w.joined-is
+    ]

@@ -9,6 +9,7 @@ returns c =
     let number = c.number.ensures in
     let withdrawn = c.withdraw_in-refusal.ensures in
     elim c.if-number-eq0.branch [
-      then-number-eq0 w ↦ withdraw_accepted _ _ _ _ _ _ withdrawn _ c.with_lists.ensures (sym number ∙ w.if-number-eq0.true)
-        (w.left-is ∙ ap (λ (n : ℕ). n - 1) c.least-n.ensures)
-    | else-number-eq0 w ↦ withdraw_refused _ _ _ _ _ _ withdrawn _ c.with_lists.ensures (λ z. w.if-number-eq0.false (number ∙ z)) w.left-is ]
+      | then-number-eq0 w ↦ withdraw_accepted _ _ _ _ _ _ withdrawn _ c.with_lists.ensures (sym number ∙ w.if-number-eq0.true)
+          (w.left-is ∙ ap (λ (n : ℕ). n - 1) c.least-n.ensures)
+      | else-number-eq0 w ↦ withdraw_refused _ _ _ _ _ _ withdrawn _ c.with_lists.ensures (λ z. w.if-number-eq0.false (number ∙ z)) w.left-is
+    ]

@@ -1,5 +1,4 @@
 -- `findings::figures::figures_of` meets its contract: after i turns, the figures of the first i results. Assumes nothing.
-use Prim.Native.Nat.{◌-◌}
 use mathlib.Core.Path.{refl, ap, ◌∙◌}
 use lib.ListN.{get_or}
 use Rattle.rules.specs.Contents.{total, smallest, largest}

@@ -2,7 +2,6 @@
 use Prim.Native.Nat.{◌-◌, ◌≤◌}
 use mathlib.Core.Path.{◌≡◌}
 use Rattle.rules.specs.Limits.{widest}
-use Rattle.rules.specs.Contents.{largest}
 use Rattle.rules.specs.Figures.{figures_of}
 use Rattle.findings.specs.Reportable.{in_order}
 use Rattle.findings.proofs.figures.figures_of.Given as goal
