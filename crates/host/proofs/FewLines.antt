@@ -9,7 +9,7 @@ use lib.Dec.{eqb}
 use lib.ListN.{length}
 use Rattle.rules.specs.Choice.{pick}
 use Rattle.rules.specs.Limits.{widest}
-use Rattle.rules.specs.Ledger.{Ledger, Judged, enter_on, withdraw_on}
+use Rattle.rules.specs.Ledger.{Ledger, enter_on, withdraw_on}
 use Rattle.rules.specs.Stages.{is_ended}
 use Rattle.rules.specs.Lines.{Line, ended, unended, lines_of}
 use Rattle.rules.specs.Frames.{frame_of}

@@ -1,14 +1,14 @@
 -- What a call on a sheet comes to, from the answers that lead to it. Assumes nothing.
-use mathlib.Core.Path.{◌≡◌, refl, sym, ap, ◌∙◌}
+use mathlib.Core.Path.{◌≡◌, refl, ap, ◌∙◌}
 use mathlib.Core.Bool.{false}
 use mathlib.Core.List.{List}
-use Prim.Native.Nat.{ℕ, ◌≤◌, ◌<◌}
+use Prim.Native.Nat.{ℕ, ◌<◌}
 use native.Mathlib.Omega.{arith}
 use Rattle.rules.specs.Limits.{widest}
-use Rattle.rules.specs.Numbers.{TextAnswer, number_of, written_answer}
+use Rattle.rules.specs.Numbers.{number_of}
 use Rattle.rules.specs.Contents.{is_held}
 use Rattle.rules.specs.Ledger.{Ledger, Judged, enter_on, withdraw_on}
-use Rattle.rules.specs.Reading.{SheetOutcome, read_of}
+use Rattle.rules.specs.Reading.{read_of}
 use Rattle.rules.specs.ListReading.{Listed, list_on}
 use Rattle.rules.specs.OnSheets.{SheetAnswer, faulty, without_line, after_call, call_on, enter_sheet, withdraw_sheet, enter_list_sheet}
 use Rattle.rules.specs.declared.Refusal.{Refusal}

@@ -1,6 +1,5 @@
 -- `list_reader::take_lines` meets its contract: the lines before `at` are entered, and the next one has the number `line`. Assumes nothing.
 use mathlib.Core.Path.{sym, ◌∙◌}
-use Prim.Native.Nat.{◌-◌}
 use Rattle.list_reader.proofs.Entering.{reached_start, read_by, taken_all, taken_unended, taken_stopped, reached_more}
 use Rattle.list_reader.proofs.take_lines.Goals as goal
 

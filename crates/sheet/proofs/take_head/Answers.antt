@@ -22,9 +22,11 @@ loop-at-smaller c =
 pub loop-at-preserved : goal.loop-at-preserved
 loop-at-preserved c =
     let loop = c.loop-at in
-    let taken = c.in-Taken.ensures in
-    ((line_next loop.invariant.0 c.loop-at-test.true c.line_at-head_line.ensures (taken_frame _ _ taken.right)).0, taken.unopened,
-    line_comes loop.invariant.0 c.loop-at-test.true c.line_at-head_line.ensures _ loop.invariant.2 taken.right)
+    let taken = c.in-Taken.ensures in (
+      (line_next loop.invariant.0 c.loop-at-test.true c.line_at-head_line.ensures (taken_frame _ _ taken.right)).0,
+      taken.unopened,
+      line_comes loop.invariant.0 c.loop-at-test.true c.line_at-head_line.ensures _ loop.invariant.2 taken.right,
+    )
 
 pub returns-in-Results : goal.returns-in-Results
 returns-in-Results c =
