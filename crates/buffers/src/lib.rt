@@ -44,7 +44,7 @@ pub fn read_full<R: Read>(from: &mut R, buffer: &mut [u8]) -> io::Result<usize>
     Ok(done)
 }
 
-// The bytes of a file, as many as fit; none where it cannot be read.
+// The bytes of a file, as many as fit, up to where it cannot be read any more; none where it cannot be read at all.
 pub fn read_file(rt: &impl Files, name: &[u8], buffer: &mut [u8]) -> usize
     ensures { IsPrefixLen result buffer.new }
 {
@@ -54,10 +54,14 @@ pub fn read_file(rt: &impl Files, name: &[u8], buffer: &mut [u8]) -> usize
     let Ok(mut file) = fs::open(rt, path) else {
         return 0;
     };
-    match read_full(&mut file, buffer) {
-        Ok(n) => n,
-        Err(_) => 0,
+    let mut size = 0;
+    while size < buffer.len() {
+        match file.read(&mut buffer[size..]) {
+            Ok(n) if n > 0 => size += n,
+            _ => break,
+        }
     }
+    size
 }
 
 // The word at this place of those that the program was given, its own name at 0; none where it is missing or does not fit.

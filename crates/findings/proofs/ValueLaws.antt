@@ -31,7 +31,7 @@ module _ (f : Figures) (m : Served f) where
   sum_most : f.sum ≤ most_sum
   sum_most = omega (arith, m.spread.sum_high, m.few)
 
-  -- N-as-Q and S², and so D
+  -- N·Q and S², and so D
   pub product_most : f.count * f.squares ≤ most_sum * most_sum
   product_most = omega (arith, mul-le-mul m.few m.spread.squares_high, sum_most)
 

@@ -6,7 +6,7 @@ ghost use Rattle.findings.specs.Reportable.{Served};
 
 use rules::{Attribute, Figures, Fraction, HIGHEST_X, Head};
 
-// D = N.Q - S².
+// D = N·Q - S².
 fn deviation(f: Figures) -> u64
     requires { Served f }
     ensures { result ≡ rule·deviation f }

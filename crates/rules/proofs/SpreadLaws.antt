@@ -42,7 +42,7 @@ spread_more : (n s q : ℕ) (p : Content) → ((x : ℕ) → 2 * (s * x) ≤ n *
 spread_more n s q free c h = omega (arith, h)
 spread_more n s q (holds y) c h = omega (arith, h, c y)
 
--- S² is at most N-as-Q
+-- S² is at most N·Q
 pub spread : (n : ℕ) (f : Contents) → total value n f * total value n f ≤ total one n f * total square n f
 unfolding total
 spread zero f = omega arith
