@@ -1,3 +1,2 @@
 // No functions: what is written reads back as the same lot, card and held results.
 #![tactic(auto)]
-
