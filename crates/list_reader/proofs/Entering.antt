@@ -18,8 +18,6 @@ use Rattle.rules.specs.declared.Refusal.TheVariants.{Accepted, BadListLine}
 use Rattle.cutter.specs.Runs.{line_at}
 use Rattle.cutter.proofs.Lines.{lines_ended, lines_unended, lines_none}
 use Rattle.list_lines.specs.Lines.{entry_on, ReadAt}
-use Rattle.list_lines.specs.declared.Entry.{Entry}
-use Rattle.list_lines.specs.declared.Entry.TheVariants as entry
 use Rattle.list_lines.specs.declared.LineRead.{LineRead}
 use Rattle.list_lines.proofs.LineLaws.{line_kept}
 use Rattle.tally.specs.View.{tally_of, view}
@@ -27,18 +25,6 @@ use Rattle.tally.specs.Calls.{Sound, Enters, held_after}
 use Rattle.tally.specs.declared.Tally.{Tally}
 use Rattle.list_reader.specs.declared.Taken.{Taken}
 use Rattle.list_reader.specs.Promise.{EntersEntry, told_by, Takes, Lists}
-
--- ---- one line
-pub entry_result : (l : Lot) (ks vs : List ℕ) (n k x : ℕ) (e : Refusal) (ks' vs' : List ℕ) (t : Entry) → t ≡ entry.Result k x → Enters l ks vs n k x e ks' vs' → EntersEntry l ks vs n t e ks' vs'
-entry_result l ks vs n k x e ks' vs' t q h = rw q (record { room = h.room; answers = h.answers })
-
-pub entry_bad : (l : Lot) (ks vs : List ℕ) (n : ℕ) (t : Entry) → t ≡ entry.Bad → EntersEntry l ks vs n t BadListLine ks vs
-entry_bad l ks vs n t q =
-    rw q
-    (record {
-      room = λ z. absurd (omega arith);
-      answers = λ c. record { kept = λ h. refl; right = λ s. refl; sound = λ s. s };
-    })
 
 -- ---- what is left of the list s from a on, where the ledger is g and the next line has the number n
 unfoldable pub left : Ledger → List ℕ → ℕ → Ledger → ℕ → Listed

@@ -1,5 +1,5 @@
 -- What the reading of a comma list into a tally promises.
-use Rattle.std.specs.Prelude.{◌≡◌, List, ℕ, ◌<◌, eqb}
+use Rattle.std.specs.Prelude.{◌≡◌, List, ℕ, ◌<◌, eqb, Option}
 use Rattle.rules.specs.Choice.{pick}
 use Rattle.rules.specs.Limits.{most_held}
 use Rattle.rules.specs.Numbers.{number_of}
@@ -29,7 +29,7 @@ pub record Lists (t : Tally) (s : List ℕ) (r : Listing) : Type 0 where
 
 -- ---- on the lists of a tally, whatever its card
 -- a line
-pub record EntersEntry (l : Lot) (ks vs : List ℕ) (n : ℕ) (t : Entry) (e : Refusal) (ks' vs' : List ℕ) : Type 0 where
+pub record EntersEntry (l : Lot) (ks vs : List ℕ) (n : ℕ) (t : Option Entry) (e : Refusal) (ks' vs' : List ℕ) : Type 0 where
   pub room : number_of e ≡ 0 → n < most_held
   pub answers : (c : Card) → let u = tally_of l c ks vs n in
       Answers (Sound u) u (entry_on (view u) t) (outcome_of e (tally_of l c ks' vs' (held_after e n)))

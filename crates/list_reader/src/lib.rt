@@ -30,15 +30,15 @@ fn enter_entry(
     containers: &mut [u16; MOST_HELD],
     results: &mut [u16; MOST_HELD],
     held: usize,
-    entry: Entry,
+    entry: Option<Entry>,
 ) -> Refusal
     ensures { EntersEntry lot containers.old results.old held entry result containers.new results.new }
 {
     match entry {
-        Entry::Result { container: k, x } => {
-            tally::enter_in(lot, containers, results, held, k, x)
+        Some(Entry { container, x }) => {
+            tally::enter_in(lot, containers, results, held, container, x)
         }
-        Entry::Bad => Refusal::BadListLine,
+        None => Refusal::BadListLine,
     }
 }
 
