@@ -1,6 +1,7 @@
 -- The first row that serves, and what the row by the printed mean changes against the exact mean. Assumes nothing.
 use mathlib.Core.Path.{◌≡◌, refl, sym, ap, ◌∙◌}
 use mathlib.Core.Bool.{Bool, true, false, true≢false}
+use Rattle.std.specs.Prelude.{None, Some}
 use Prim.Native.Nat.{ℕ, zero, suc, ◌+◌, ◌-◌, ◌*◌, ◌^◌, ◌≤◌, ◌<◌}
 use native.Mathlib.Nat.{mul-le-mul_left, mul-le-mul_right}
 use native.Mathlib.Numerals.{add-one}
@@ -18,35 +19,34 @@ use Rattle.rules.specs.declared.Attribute.TheVariants.{Purity, Germination, Coun
 use Rattle.rules.specs.declared.Card.{Card}
 use Rattle.rules.specs.declared.Figures.{Figures}
 use Rattle.rules.specs.declared.Fraction.{Fraction}
-use Rattle.rules.specs.declared.Limit.TheVariants.{Absent, At}
 use Rattle.rules.proofs.Tests.{and_left, and_right, and_both}
 use Rattle.rules.proofs.RoundingLaws.{low, high}
 
 -- ---- the first row that serves
 module _ (c : Card) (n : ℕ) (mean : Fraction) where
-  pub none_yet : Absent ≡ tolerated_upto c n mean 0
+  pub none_yet : None ≡ tolerated_upto c n mean 0
   unfolding tolerated_upto
   none_yet = refl
 
-  pub row_passed : (k : ℕ) (b : Bool) → Absent ≡ tolerated_upto c n mean k → b ≡ row_serves c k n mean → b ≡ false → Absent ≡ tolerated_upto c n mean (k + 1)
+  pub row_passed : (k : ℕ) (b : Bool) → None ≡ tolerated_upto c n mean k → b ≡ row_serves c k n mean → b ≡ false → None ≡ tolerated_upto c n mean (k + 1)
   unfolding tolerated_upto
   row_passed k b e t f = rw (add-one k, ← e, ← t, f) refl
 
   -- further rows change nothing
-  row_further : (v k : ℕ) → At v ≡ tolerated_upto c n mean k → At v ≡ tolerated_upto c n mean (suc k)
+  row_further : (v k : ℕ) → Some v ≡ tolerated_upto c n mean k → Some v ≡ tolerated_upto c n mean (suc k)
   unfolding tolerated_upto
   row_further v k e = rw (← e) refl
 
-  stays : (v k m : ℕ) → At v ≡ tolerated_upto c n mean k → k ≤ m → At v ≡ tolerated_upto c n mean m
+  stays : (v k m : ℕ) → Some v ≡ tolerated_upto c n mean k → k ≤ m → Some v ≡ tolerated_upto c n mean m
   stays v k zero e h = let z : k ≡ 0 = omega arith in rw z at e
   stays v k (suc m) e h = by (dec_le k m) (stays v k m e)
     where
-      by : Dec (k ≤ m) → (k ≤ m → At v ≡ tolerated_upto c n mean m) → At v ≡ tolerated_upto c n mean (suc m)
+      by : Dec (k ≤ m) → (k ≤ m → Some v ≡ tolerated_upto c n mean m) → Some v ≡ tolerated_upto c n mean (suc m)
       by (yes p) r = row_further v m (r p)
       by (no p) r = let z : k ≡ suc m = omega arith in rw z at e
 
-  pub row_found : (k m : ℕ) (b : Bool) → Absent ≡ tolerated_upto c n mean k → b ≡ row_serves c k n mean → b ≡ true → k < m
-      → At (get_or c.tolerated k 0) ≡ tolerated_upto c n mean m
+  pub row_found : (k m : ℕ) (b : Bool) → None ≡ tolerated_upto c n mean k → b ≡ row_serves c k n mean → b ≡ true → k < m
+      → Some (get_or c.tolerated k 0) ≡ tolerated_upto c n mean m
   row_found k m b e t f h = stays (get_or c.tolerated k 0) (suc k) m (unfold tolerated_upto in rw (← e, ← t, f) refl) h
 
   -- the test in words
@@ -69,14 +69,14 @@ module _ (c : Card) (n : ℕ) (mean : Fraction) where
       by true e = absurd (h (serves_tells k e))
       by false e = refl
 
-  passed_by : (j : ℕ) → ((i : ℕ) → i < j → Serves c n mean i → ⊥) → Absent ≡ tolerated_upto c n mean j
+  passed_by : (j : ℕ) → ((i : ℕ) → i < j → Serves c n mean i → ⊥) → None ≡ tolerated_upto c n mean j
   passed_by zero h = none_yet
   passed_by (suc j) h = rw (← add-one j) (row_passed j (row_serves c j n mean) (passed_by j (λ i l. h i (omega arith))) refl (not_served j (h j (omega arith))))
 
-  pub first_row : (k : ℕ) → FirstRow c n mean k → tolerated_upto c n mean c.rows ≡ At (get_or c.tolerated k 0)
+  pub first_row : (k : ℕ) → FirstRow c n mean k → tolerated_upto c n mean c.rows ≡ Some (get_or c.tolerated k 0)
   first_row k f = sym (row_found k c.rows true (passed_by k f.before) (sym (row_serves_lem k f.serves)) refl f.row)
 
-  pub no_row : ((k : ℕ) → k < c.rows → Serves c n mean k → ⊥) → tolerated_upto c n mean c.rows ≡ Absent
+  pub no_row : ((k : ℕ) → k < c.rows → Serves c n mean k → ⊥) → tolerated_upto c n mean c.rows ≡ None
   no_row h = sym (passed_by c.rows h)
 
 -- ---- a bound is at least the printed mean exactly where the exact mean is less than half a unit above it

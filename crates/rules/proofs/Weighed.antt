@@ -2,18 +2,17 @@
 use mathlib.Core.Path.{◌≡◌, refl}
 use mathlib.Core.List.{List, [], ◌∷◌}
 use Prim.Native.Nat.{ℕ}
-use Rattle.rules.specs.Numbers.{gives, refuses, weight_answer, share_answer}
+use Rattle.rules.specs.Numbers.{Answered, gives, refuses, answer_of}
 use Rattle.rules.specs.Weights.{tenths_of, weighed_of}
-use Rattle.rules.specs.declared.Answered.{Answered}
 use Rattle.rules.proofs.Cases.{Case, prints, answers, by_definition, by_document}
 
 -- a weight by its bits
 abbrev weight : ℕ → Answered
-weight b = weight_answer (tenths_of b)
+weight b = answer_of (tenths_of b)
 
 -- a sample by its status and the bits of component and remainder
 abbrev sample : ℕ → ℕ → ℕ → Answered
-sample status c r = share_answer (weighed_of status c r)
+sample status c r = answer_of (weighed_of status c r)
 
 abbrev pub weighed_table : List Case
 weighed_table =

@@ -2,8 +2,7 @@
 use Rattle.std.specs.Prelude.{◌&&◌, List, [], ◌∷◌, ℕ, ◌-◌, max, min, leb, length}
 use Rattle.rules.specs.Choice.{pick, unless}
 use Rattle.rules.specs.Limits.{highest_x, fewest_mixed, most_mixed}
-use Rattle.rules.specs.Numbers.{gives, refuses}
-use Rattle.rules.specs.declared.Answered.{Answered}
+use Rattle.rules.specs.Numbers.{Answered, gives, refuses}
 
 -- the largest and the smallest of the results; of none, 0 and the highest X
 unfoldable pub largest_of : List ℕ → ℕ

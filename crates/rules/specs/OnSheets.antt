@@ -1,13 +1,14 @@
 -- Calls on a sheet: it is read, a call is made on its ledger, and the sheet after the call is written.
-use Rattle.std.specs.Prelude.{List, ℕ, eqb}
+use Rattle.std.specs.Prelude.{List, ℕ, eqb, Result, Ok, Err}
 use Rattle.rules.specs.Choice.{pick}
 use Rattle.rules.specs.Numbers.{TextAnswer, number_of}
 use Rattle.rules.specs.Ledger.{Ledger, Judged, enter_on, withdraw_on}
 use Rattle.rules.specs.Reading.{SheetOutcome, accepted, refused, read_of}
 use Rattle.rules.specs.Writing.{write_on}
 use Rattle.rules.specs.ListReading.{Listed, list_on}
-use Rattle.rules.specs.declared.OnSheet.{OnSheet}
-use Rattle.rules.specs.declared.OnSheet.TheVariants as on-sheet
+use Rattle.rules.specs.declared.Fault.{Fault}
+use Rattle.rules.specs.declared.Place.{Place}
+use Rattle.rules.specs.declared.Place.TheVariants as place
 
 -- What such a call is answered: the refusal's number, 0 for none, with the file and the line of a fault in a text, else 0 and 0; the
 -- length of the sheet after it; and the whole buffer afterwards.
@@ -26,10 +27,21 @@ faulty e file line d = record { number = e; file = file; line = line; size = 0; 
 abbrev pub as_written : TextAnswer → SheetAnswer
 as_written t = record { number = t.number; file = 0; line = 0; size = t.size; bytes = t.bytes }
 
+-- the file and the line where a fault stands; 0 and 0 where it stands in the call itself
+abbrev pub file_of : Place → ℕ
+file_of place.Call = 0
+file_of (place.Sheet line) = 1
+file_of (place.List line) = 2
+
+abbrev pub line_of : Place → ℕ
+line_of place.Call = 0
+line_of (place.Sheet line) = line
+line_of (place.List line) = line
+
 -- the code's answer, and the buffer afterwards
-abbrev pub on_sheet_answer : OnSheet → List ℕ → SheetAnswer
-on_sheet_answer (on-sheet.Length n) b = record { number = 0; file = 0; line = 0; size = n; bytes = b }
-on_sheet_answer (on-sheet.Refused e file line) b = faulty (number_of e) file line b
+abbrev pub on_sheet_answer : Result ℕ Fault → List ℕ → SheetAnswer
+on_sheet_answer (Ok n) b = record { number = 0; file = 0; line = 0; size = n; bytes = b }
+on_sheet_answer (Err f) b = faulty (number_of f.refusal) (file_of f.place) (line_of f.place) b
 
 -- a call's own refusal has no line
 abbrev pub without_line : Judged → Listed

@@ -2,8 +2,7 @@
 use Rattle.std.specs.Prelude.{Bool, ◌&&◌, ℕ, ◌+◌, ◌-◌, ◌*◌, ◌/◌, max, leb, ltb}
 use Rattle.rules.specs.Choice.{pick}
 use Rattle.rules.specs.Limits.{widest}
-use Rattle.rules.specs.Numbers.{gives, refuses}
-use Rattle.rules.specs.declared.Answered.{Answered}
+use Rattle.rules.specs.Numbers.{Answered, gives, refuses}
 
 -- the parts of m that n is divided into, a begun one counted
 abbrev pub begun_parts : ℕ → ℕ → ℕ

@@ -4,6 +4,19 @@ ghost use Rattle.rules.specs.Attributes.{attribute_of, is_void, places_of_x, mea
 
 use crate::Attribute;
 
+// The attribute of a number: 00 purity, 01 germination, 02 count.
+impl From<u16> for Attribute {
+    ghost from_gives = { λ number a. a ≡ attribute_of number };
+
+    fn from(number: u16) -> Attribute {
+        match number {
+            0 => Attribute::Purity,
+            1 => Attribute::Germination,
+            _ => Attribute::Count,
+        }
+    }
+}
+
 // Each attribute carries its own limits and places. Limits are in units of X: hundredths of a percent, or whole seeds.
 impl Attribute {
     pub const PURITY_LOWEST: u64 = 20;
@@ -16,30 +29,17 @@ impl Attribute {
 
     pub const COUNT_LOWEST: u64 = 2;
 
-    // The attribute of a number: 00 purity, 01 germination, 02 count.
-    pub fn of(number: u16) -> Attribute
-        ensures { result ≡ attribute_of number }
-    {
-        if number == 0 {
-            return Attribute::Purity;
-        }
-        if number == 1 {
-            return Attribute::Germination;
-        }
-        Attribute::Count
-    }
-
     // Whether the mean of n results with the sum s is beyond the attribute's limits.
     #[tactic(auto, unfolding(crate::specs::Attributes::is_void))]
     pub fn is_void(self, n: u16, s: u32) -> bool
         ensures { result ≡ is_void self n s }
     {
-        let n = n as u64;
-        let s = s as u64;
+        let n = u64::from(n);
+        let s = u64::from(s);
         match self {
-            Attribute::Purity => (Self::PURITY_HIGHEST * n < s) | (s < Self::PURITY_LOWEST * n),
+            Attribute::Purity => Self::PURITY_HIGHEST * n < s || s < Self::PURITY_LOWEST * n,
             Attribute::Germination => {
-                (Self::GERMINATION_HIGHEST * n < s) | (s < Self::GERMINATION_LOWEST * n)
+                Self::GERMINATION_HIGHEST * n < s || s < Self::GERMINATION_LOWEST * n
             }
             Attribute::Count => s < Self::COUNT_LOWEST * n,
         }
@@ -50,8 +50,7 @@ impl Attribute {
         ensures { (result ≡ places_of_x self) × (result ≤ 2) }
     {
         match self {
-            Attribute::Purity => 2,
-            Attribute::Germination => 2,
+            Attribute::Purity | Attribute::Germination => 2,
             Attribute::Count => 0,
         }
     }
@@ -61,8 +60,7 @@ impl Attribute {
         ensures { (result ≡ mean_places self n) × (result ≤ 3) }
     {
         match self {
-            Attribute::Purity => if 10 <= n { 3 } else { 2 },
-            Attribute::Germination => if 10 <= n { 3 } else { 2 },
+            Attribute::Purity | Attribute::Germination => if 10 <= n { 3 } else { 2 },
             Attribute::Count => if 10 <= n { 2 } else { 1 },
         }
     }
@@ -73,8 +71,7 @@ impl Attribute {
         ensures { (result ≡ mean_scale self n) × (result ≤ 100) }
     {
         match self {
-            Attribute::Purity => if 10 <= n { 10 } else { 1 },
-            Attribute::Germination => if 10 <= n { 10 } else { 1 },
+            Attribute::Purity | Attribute::Germination => if 10 <= n { 10 } else { 1 },
             Attribute::Count => if 10 <= n { 100 } else { 10 },
         }
     }

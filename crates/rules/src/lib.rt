@@ -1,8 +1,9 @@
-// The plain data of a lot's results: attribute, lot, card, the frames of a sheet, the numbered refusals, what a report finds, and the
-// answers of the calls. What each means is said in specs/.
+// The plain data of a lot's results: attribute, lot, card, the frames of a sheet, what a report finds, and the numbered refusals, with
+// which the calls answer where they give no value. What each means is said in specs/.
 #![tactic(auto)]
 
 pub mod attributes;
+pub mod faults;
 pub mod refusals;
 
 // The most results that a tally holds, that a join may come to, and that N may be in a frame.
@@ -56,7 +57,7 @@ pub const END_DIGITS: usize = 4;
 pub const BALANCE_DIGITS: usize = 24;
 
 // What was tested.
-#[derive(Clone, Copy)]
+#[derive(Clone, Copy, Debug, PartialEq, Eq)]
 pub enum Attribute {
     Purity,
     Germination,
@@ -64,14 +65,14 @@ pub enum Attribute {
 }
 
 // A lot: its attribute's number (00 purity, 01 germination, 02 count) and N0, how many containers it has.
-#[derive(Clone, Copy)]
+#[derive(Clone, Copy, Debug, Default, PartialEq, Eq)]
 pub struct Lot {
     pub attribute: u16,
     pub containers: u16,
 }
 
 // The head of a card: factor is F, offset is G, seeds is n.
-#[derive(Clone, Copy)]
+#[derive(Clone, Copy, Debug, Default, PartialEq, Eq)]
 pub struct Head {
     pub factor: u16,
     pub offset: u16,
@@ -92,10 +93,9 @@ pub struct Card {
     pub tolerated: [u16; MOST_ROWS],
 }
 
-// The trade words of document 01's table and of document 02's points. Accepted: none applies.
-#[derive(Clone, Copy)]
+// The trade words of document 01's table and of document 02's points.
+#[derive(Clone, Copy, Debug, PartialEq, Eq)]
 pub enum Refusal {
-    Accepted,
     BadLine,
     OutOfTurn,
     BadLot,
@@ -119,7 +119,7 @@ pub enum Refusal {
 }
 
 // The stages of a sheet: which frame was read last.
-#[derive(Clone, Copy)]
+#[derive(Clone, Copy, Debug, PartialEq, Eq)]
 pub enum Stage {
     Start,
     Lot,
@@ -182,21 +182,6 @@ pub enum Reading {
     Overload,
 }
 
-// A weight in tenths of a milligram.
-#[derive(Clone, Copy)]
-pub enum Weight {
-    Tenths(u32),
-    Bad,
-}
-
-// X of a weighed sample in hundredths of a percent, or why there is none.
-#[derive(Clone, Copy)]
-pub enum Share {
-    Hundredths(u16),
-    NotSteady,
-    BadWeight,
-}
-
 // N, S, Q, and the two ends of the range.
 #[derive(Clone, Copy)]
 pub struct Figures {
@@ -222,15 +207,8 @@ pub struct Fraction {
     pub under: u64,
 }
 
-// What H or R is set against.
-#[derive(Clone, Copy)]
-pub enum Limit {
-    Absent,
-    At(u32),
-}
-
 // Undecided: without a limit.
-#[derive(Clone, Copy)]
+#[derive(Clone, Copy, Debug, PartialEq, Eq)]
 pub enum Verdict {
     Kept,
     Over,
@@ -238,7 +216,7 @@ pub enum Verdict {
 }
 
 // On which side of a printed number the exact one is. Unrounded: the number was not rounded, and has no mark.
-#[derive(Clone, Copy)]
+#[derive(Clone, Copy, Debug, PartialEq, Eq)]
 pub enum Side {
     Unrounded,
     Equal,
@@ -253,97 +231,45 @@ pub struct Rounded {
     pub side: Side,
 }
 
-// H or R as its line has it, with its decimal places and its side.
+// H or R as its line has it, with its decimal places, its side, and the limit that it is set against, where there is one.
 #[derive(Clone, Copy)]
 pub struct Value {
     pub places: u8,
     pub value: u64,
     pub side: Side,
-    pub limit: Limit,
+    pub limit: Option<u32>,
     pub verdict: Verdict,
 }
 
-// What the five lines of a report say: N, the mean with its decimal places and its side, H and R, which a void lot has not, and the
-// lot's verdict.
+// H, R and the lot's verdict.
+#[derive(Clone, Copy)]
+pub struct Judgement {
+    pub h: Value,
+    pub r: Value,
+    pub lot: Verdict,
+}
+
+// What the five lines of a report say: N, the mean with its decimal places and its side, and the judgement, which a void lot has not.
 #[derive(Clone, Copy)]
 pub struct Findings {
     pub count: u16,
     pub places: u8,
     pub mean: u64,
     pub side: Side,
-    pub void: bool,
-    pub h: Value,
-    pub r: Value,
-    pub lot: Verdict,
+    pub judgement: Option<Judgement>,
 }
 
-// ---- answers: calls that give a number
-// The number of a refusal, 0 for none, and a value.
+// Where a fault of a call on a sheet stands: in the call itself, or in a line of the sheet or of the list.
 #[derive(Clone, Copy)]
-pub struct Answered {
-    pub number: u32,
-    pub value: u32,
+pub enum Place {
+    Call,
+    Sheet(usize),
+    List(usize),
 }
 
-// The number of primary samples.
+// What a call on a sheet is refused with, and where the fault stands.
 #[derive(Clone, Copy)]
-pub enum Samples {
-    Number(u32),
-    OutsideTable,
-}
-
-// Whether two tests, or a label and a test, agree.
-#[derive(Clone, Copy)]
-pub enum Tolerance {
-    Within,
-    Out,
-    OutsideTable,
-}
-
-// Whether component lots may be mixed.
-#[derive(Clone, Copy)]
-pub enum Mixing {
-    Mixable,
-    NotMixable,
-    ResultTooHigh,
-    OutsideTable,
-}
-
-// ---- answers: calls that write a text
-// The number of a refusal, 0 for none, and the text's length.
-#[derive(Clone, Copy)]
-pub struct TextSize {
-    pub number: u32,
-    pub size: usize,
-}
-
-// A report's answer: the text's length, or a refusal.
-#[derive(Clone, Copy)]
-pub enum Reported {
-    Length(usize),
-    TooFew,
-    BufferShort,
-}
-
-// The sheet writer's answer.
-#[derive(Clone, Copy)]
-pub enum Written {
-    Length(usize),
-    BadLot,
-    BufferShort,
-}
-
-// The answer of what prints for a sheet, and of the list writer.
-#[derive(Clone, Copy)]
-pub enum Printed {
-    Length(usize),
-    BufferShort,
-}
-
-// The answer of a call on a sheet: the length of the sheet after it; or a refusal, with the file (1 the sheet, 2 the list) and the line
-// of a fault in one of them, else 0 and 0.
-#[derive(Clone, Copy)]
-pub enum OnSheet {
-    Length(usize),
-    Refused(Refusal, u32, usize),
+pub struct Fault {
+    pub refusal: Refusal,
+    pub place: Place,
 }

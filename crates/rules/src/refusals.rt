@@ -9,7 +9,6 @@ impl Refusal {
         ensures { result ≡ number_of self }
     {
         match self {
-            Refusal::Accepted => 0,
             Refusal::BadLine => 1,
             Refusal::OutOfTurn => 2,
             Refusal::BadLot => 3,
