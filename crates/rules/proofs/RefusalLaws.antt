@@ -4,7 +4,7 @@ use mathlib.Core.Bool.{Bool, true, false, true≢false}
 use Prim.Native.Nat.{ℕ}
 use lib.Dec.{eqb}
 use borrow.Author.Tests.{eqb-false, ne_eqb}
-use Rattle.std.specs.Prelude.{Result, Ok, Err, ⊤, is_ok, IsErrAnd}
+use Rattle.std.specs.Prelude.{Result, Ok, Err, ⊤, is_ok, is_err, IsErrAnd}
 use Rattle.rules.specs.Numbers.{number_of, number_in}
 use Rattle.rules.specs.declared.Refusal.{Refusal}
 use Rattle.rules.specs.declared.Refusal.TheVariants.{BadLine, OutOfTurn, BadLot, BadCard, CardFull, NoSuchContainer, ResultTooHigh, AlreadyHeld, Full, NotHeld, OtherLot, SharedContainer, TooManyTogether, CountWrong, TooFew, BufferShort, OutsideTable, NotSteady, BadWeight, BadListLine}
@@ -47,6 +47,14 @@ zero_of_ok (Err e) z = absurd (true≢false (sym z))
 pub not_zero : (r : Result ⊤ Refusal) → is_ok r ≡ false → number_in r ≡ 0 → ⊥
 not_zero (Ok u) z = absurd (true≢false z)
 not_zero (Err e) z = never_zero e
+
+pub zero_of_no_err : (r : Result ⊤ Refusal) → is_err r ≡ false → number_in r ≡ 0
+zero_of_no_err (Ok u) z = refl
+zero_of_no_err (Err e) z = absurd (true≢false z)
+
+pub err_not_zero : (r : Result ⊤ Refusal) → is_err r ≡ true → number_in r ≡ 0 → ⊥
+err_not_zero (Ok u) z = absurd (true≢false (sym z))
+err_not_zero (Err e) z = never_zero e
 
 -- what `?` hands on is the refusal that was given
 pub passed_on : {A : Type 0} {r : Result A Refusal} {e : Refusal} → IsErrAnd r (λ f. f ≡ e) → r ≡ Err e
