@@ -1,1 +1,1 @@
-pub mod LimitLaws
+mod FirstRow

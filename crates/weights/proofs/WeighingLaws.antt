@@ -1,21 +1,16 @@
 -- What the code's steps come to. Assumes nothing.
-use mathlib.Core.Path.{◌≡◌, refl, sym, ap, ◌∙◌, subst}
-use mathlib.Core.Bool.{Bool, true, false, not}
+use mathlib.Core.Path.{◌≡◌, sym, ap, ◌∙◌, subst}
+use mathlib.Core.Bool.{true, false, not}
 use Prim.Native.Nat.{ℕ, ◌+◌, ◌-◌, ◌*◌, ◌/◌, ◌%◌, ◌^◌, ◌≤◌, ◌<◌}
 use native.Mathlib.Nat.{div-le_self, one-mul, lt_of_le_of_lt}
 use native.Mathlib.Omega.{arith}
-use lib.Dec.{T, eqb, lit<}
+use lib.Dec.{T, lit<}
 use lib.Pow.{pow_pos, pow_mono, shl_exact}
-use lib.Ieee.{Float, nan, inf, fin, binary32, is_nan, ne, to_bits}
+use lib.Ieee.{Float, nan, inf, fin, is_nan, ne}
 use lib.Ieee.Compare.{nan_differs, differs_from_itself}
-use Rattle.rules.specs.Choice.{pick}
 use Rattle.rules.specs.Rounding.{nearest_of}
 use Rattle.rules.specs.Floats.{exact_of}
-use Rattle.rules.specs.Weights.{nearest_tenths, share_of, reading_of, weighed_of}
-use Rattle.rules.specs.declared.Reading.{Reading}
-use Rattle.rules.specs.declared.Reading.TheVariants.{Steady, Unsteady, Overload}
-use Rattle.rules.specs.declared.Share.{Share}
-use Rattle.rules.specs.declared.Share.TheVariants.{NotSteady}
+use Rattle.rules.specs.Weights.{nearest_tenths}
 use Rattle.rules.proofs.WeightLaws.{tenths_some}
 use Rattle.rounding.specs.Dividing.{division_of}
 use Rattle.rounding.proofs.DividingLaws.{workable_of}
@@ -48,35 +43,3 @@ same_is (fin s m x) e = tt
 
 pub other_is : (x : Float) → ne x x ≡ true → x ≡ nan
 other_is x e = differs_from_itself x (subst T (sym e) tt)
-
--- ---- readings
-steady_is : (status : ℕ) (w v : Float) → reading_of status w ≡ Steady v → (eqb status 0 ≡ true) × (v ≡ w)
-unfolding reading_of
-steady_is status w v e = by (eqb status 0) (eqb status 1) e
-  where
-    by : (t u : Bool) → pick t (Steady w) (pick u (Unsteady w) Overload) ≡ Steady v → (t ≡ true) × (v ≡ w)
-    by true u h = (refl, cc)
-    by false true h = let z : ◌≡◌ {A = ℕ} 0 1 = cc in absurd (omega arith)
-    by false false h = let z : ◌≡◌ {A = ℕ} 0 1 = cc in absurd (omega arith)
-
-pub weighed_steady : (status : ℕ) (w x v y : Float) (r : Share) → reading_of status w ≡ Steady v → reading_of status x ≡ Steady y
-    → r ≡ share_of (to_bits binary32 v) (to_bits binary32 y) → r ≡ weighed_of status (to_bits binary32 w) (to_bits binary32 x)
-unfolding weighed_of
-weighed_steady status w x v y r p q e =
-    let k = steady_is status w v p in
-    rw (k.0, sym k.1, sym (steady_is status x y q).1) e
-
--- a reading that is not steady comes of a status other than 0
-pub not_steady : (status : ℕ) (w : Float) (g : Reading) (b d : ℕ) → reading_of status w ≡ g → ((v : Float) → g ≡ Steady v → ⊥) → NotSteady ≡ weighed_of status b d
-unfolding reading_of weighed_of
-not_steady status w g b d p n = by (eqb status 0) (eqb status 1) p
-  where
-    by : (t u : Bool) → pick t (Steady w) (pick u (Unsteady w) Overload) ≡ g → NotSteady ≡ pick t (share_of b d) NotSteady
-    by true u h = absurd (n w (sym h))
-    by false u h = refl
-
-pub unsteady_differs : (w v : Float) → Unsteady w ≡ Steady v → ⊥
-unsteady_differs w v e = let z : ◌≡◌ {A = ℕ} 0 1 = cc in omega arith
-
-pub overload_differs : (v : Float) → Overload ≡ Steady v → ⊥
-overload_differs v e = let z : ◌≡◌ {A = ℕ} 0 1 = cc in omega arith

@@ -6,7 +6,7 @@ ghost use Rattle.std.specs.Float.{binary32};
 ghost use Rattle.std.specs.Float.Ieee.{of_bits, to_bits};
 ghost use Rattle.rules.specs.Weights.{tenths_of, ratio_of, share_of, reading_of, weighed_of};
 
-use rules::{HIGHEST_X, Pans, Reading, Share, TENTHS_PER_GRAM, Weight};
+use rules::{HIGHEST_X, Pans, Reading, Refusal, TENTHS_PER_GRAM};
 
 // 2 ^ 23: the fraction has 23 bits, and the exponent's field stands before them.
 const FRACTIONS: u32 = 8388608;
@@ -29,14 +29,14 @@ pub fn float(bits: u32) -> f32
 }
 
 // The number is (2 ^ 23 + fraction) / 2 ^ (150 - exponent) g.
-fn tenths_of_bits(bits: u32) -> Weight
+fn tenths_of_bits(bits: u32) -> Result<u32, Refusal>
     ensures { result ≡ tenths_of bits }
 {
     if HEAVIEST < bits {
-        return Weight::Bad;
+        return Err(Refusal::BadWeight);
     }
     if bits < LIGHTEST {
-        return Weight::Tenths(0);
+        return Ok(0);
     }
     let exponent = bits / FRACTIONS;
     let significand = FRACTIONS + bits % FRACTIONS;
@@ -46,43 +46,38 @@ fn tenths_of_bits(bits: u32) -> Weight
         1 << (150 - exponent),
     );
     let tenths = d.rounded;
-    Weight::Tenths(tenths.nearest as u32)
+    Ok(tenths.nearest as u32)
 }
 
 // A weight in tenths of a milligram, half up.
-pub fn tenths(w: f32) -> Weight
+pub fn tenths(w: f32) -> Result<u32, Refusal>
     ensures { result ≡ tenths_of (to_bits binary32 w) }
 {
     if w != w {
-        return Weight::Bad;
+        return Err(Refusal::BadWeight);
     }
     tenths_of_bits(f32::to_bits(w))
 }
 
 // The share of c in c + r, in hundredths of a percent, half up.
-fn ratio(c: u32, r: u32) -> Share
+fn ratio(c: u32, r: u32) -> Result<u16, Refusal>
     ensures { result ≡ ratio_of c r }
 {
     let both = c as u64 + r as u64;
     if both == 0 {
-        return Share::BadWeight;
+        return Err(Refusal::BadWeight);
     }
     let d = rounding::divide(1, HIGHEST_X as u64 * c as u64, both);
     let hundredths = d.rounded;
-    Share::Hundredths(hundredths.nearest as u16)
+    Ok(hundredths.nearest as u16)
 }
 
 // X of two steady weights.
-fn share(p: Pans) -> Share
+#[tactic(auto, unfolding(rules::specs::Weights::share_of))]
+fn share(p: Pans) -> Result<u16, Refusal>
     ensures { result ≡ share_of (to_bits binary32 p.component) (to_bits binary32 p.remainder) }
 {
-    match tenths(p.component) {
-        Weight::Tenths(c) => match tenths(p.remainder) {
-            Weight::Tenths(r) => ratio(c, r),
-            Weight::Bad => Share::BadWeight,
-        },
-        Weight::Bad => Share::BadWeight,
-    }
+    ratio(tenths(p.component)?, tenths(p.remainder)?)
 }
 
 // The reading of one pan, from the frame's status: 0 steady, 1 unsteady, any other an overload.
@@ -99,7 +94,8 @@ fn reading(status: u32, w: f32) -> Reading
 }
 
 // X of a status and both pans. The weights are looked at when both readings are steady.
-pub fn weighed(status: u32, p: Pans) -> Share
+#[tactic(auto, unfolding(rules::specs::Weights::reading_of, rules::specs::Weights::weighed_of))]
+pub fn weighed(status: u32, p: Pans) -> Result<u16, Refusal>
     ensures { result ≡ weighed_of status (to_bits binary32 p.component) (to_bits binary32 p.remainder) }
 {
     match reading(status, p.component) {
@@ -108,10 +104,8 @@ pub fn weighed(status: u32, p: Pans) -> Share
                 component,
                 remainder,
             }),
-            Reading::Unsteady(_) => Share::NotSteady,
-            Reading::Overload => Share::NotSteady,
+            Reading::Unsteady(_) | Reading::Overload => Err(Refusal::NotSteady),
         },
-        Reading::Unsteady(_) => Share::NotSteady,
-        Reading::Overload => Share::NotSteady,
+        Reading::Unsteady(_) | Reading::Overload => Err(Refusal::NotSteady),
     }
 }

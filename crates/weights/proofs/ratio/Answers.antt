@@ -3,7 +3,7 @@ use mathlib.Core.Path.{◌≡◌, sym, ap, ◌∙◌}
 use Prim.Native.Nat.{ℕ, ◌+◌, ◌*◌, ◌^◌, ◌≤◌, ◌<◌}
 use native.Mathlib.Omega.{arith}
 use Rattle.rules.specs.Rounding.{nearest_of}
-use Rattle.rules.specs.declared.Share.TheVariants.{Hundredths}
+use Rattle.std.specs.Prelude.{Ok}
 use Rattle.rules.proofs.WeightLaws.{ratio_none, ratio_some, ratio_most}
 use Rattle.rounding.specs.Dividing.{division_of}
 use Rattle.rounding.specs.declared.Division.{Division}
@@ -24,5 +24,5 @@ overflow_cast-result c =
 pub returns : goal.returns
 returns c =
     let a = c.args in
-    ap Hundredths (the_nearest _ a.c a.r c.divide-d.ensures (omega arith) (omega arith) (omega arith))
+    ap Ok (the_nearest _ a.c a.r c.divide-d.ensures (omega arith) (omega arith) (omega arith))
     ∙ sym (ratio_some a.c a.r (omega arith))

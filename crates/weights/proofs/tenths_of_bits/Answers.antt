@@ -4,7 +4,7 @@ use Prim.Native.Nat.{ℕ, ◌+◌, ◌-◌, ◌*◌, ◌/◌, ◌%◌, ◌^◌, 
 use native.Mathlib.Omega.{arith}
 use Rattle.rules.specs.Floats.{exact_of}
 use Rattle.rules.specs.Weights.{nearest_tenths}
-use Rattle.rules.specs.declared.Weight.TheVariants.{Tenths}
+use Rattle.std.specs.Prelude.{Ok}
 use Rattle.rules.proofs.WeightLaws.{bad_weight_lem, good_weight, tenths_none, tenths_most}
 use Rattle.rounding.specs.Dividing.{division_of}
 use Rattle.rounding.specs.declared.Division.{Division}
@@ -21,7 +21,7 @@ returns-then-bits-gt-HEAVIEST c = sym (bad_weight_lem c.args.bits c.if-bits-gt-H
 pub returns-then-bits-lt-LIGHTEST : goal.returns-then-bits-lt-LIGHTEST
 returns-then-bits-lt-LIGHTEST c =
     let bits = c.args.bits in
-    sym (good_weight bits c.if-bits-gt-HEAVIEST.false ∙ ap Tenths (tenths_none bits c.if-bits-lt-LIGHTEST.true))
+    sym (good_weight bits c.if-bits-gt-HEAVIEST.false ∙ ap Ok (tenths_none bits c.if-bits-lt-LIGHTEST.true))
 
 pub overflow_cast-result : goal.overflow_cast-result
 overflow_cast-result c =
@@ -33,4 +33,4 @@ pub returns : goal.returns
 returns c =
     let light = c.if-bits-lt-LIGHTEST.false in
     let heavy = c.if-bits-gt-HEAVIEST.false in
-    ap Tenths (the_nearest _ c.args.bits c.divide-d.ensures light heavy) ∙ sym (good_weight c.args.bits heavy)
+    ap Ok (the_nearest _ c.args.bits c.divide-d.ensures light heavy) ∙ sym (good_weight c.args.bits heavy)
