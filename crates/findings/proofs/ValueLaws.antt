@@ -100,6 +100,9 @@ mean_most a f m h = by (dec_le (mean_of a f).nearest (100 * highest_x))
         (omega
         (arith, low (mean_scale a f.count * f.sum) f.count (omega (arith, m.enough)), mul-le-mul_right f.count k, mul-le-mul h m.spread.sum_high))
 
+-- what the check needs to know of the mean
+pub ruleset mean_laws = (mean_workable, mean_most)
+
 verdict_same : (p q : ℕ → Bool) (l : Option ℕ) → ((v : ℕ) → p v ≡ q v) → verdict_on p l ≡ verdict_on q l
 verdict_same p q None h = refl
 verdict_same p q (Some v) h = ap verdict_by (h v)

@@ -26,7 +26,7 @@ fn with_result(f: Figures, x: u16) -> Figures
 }
 
 // The figures of results, in one walk.
-#[tactic(auto, using(crate::proofs::ReportableLaws::walk_more), unfolding(rules::specs::Contents::total, rules::specs::Contents::smallest, rules::specs::Contents::largest))]
+#[tactic(auto, using(crate::proofs::ReportableLaws::walk_more))]
 pub fn figures_of(results: &[u16]) -> Figures
     requires { length results.now ≤ most_held }
     ensures { result ≡ figures_of (length results.now) (in_order results.now) }

@@ -18,7 +18,7 @@ mod figures;
 mod values;
 
 // The mean in units of its last printed place, half up, with its side.
-#[tactic(auto, using(crate::proofs::ValueLaws::mean_workable, crate::proofs::ValueLaws::mean_most), unfolding(rules::specs::Figures::mean_of))]
+#[tactic(auto, using(crate::proofs::ValueLaws::mean_laws), unfolding(rules::specs::Figures::mean_of))]
 fn mean(a: Attribute, f: Figures) -> Rounded
     requires { Served f }
     ensures { (result ≡ mean_of a f) × (result.nearest ≤ 100 * highest_x) }
