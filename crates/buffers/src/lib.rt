@@ -2,7 +2,7 @@
 // bytes it put at the front of the buffer.
 #![tactic(auto)]
 
-ghost use Rattle.std.specs.Prelude.{◌≡◌, ◌<◌, length, take, IfOk};
+ghost use Rattle.std.specs.Prelude.{◌≡◌, ◌<◌, length, take, slice_index, EachIndex, IfOk};
 ghost use Rattle.std.specs.Io.{ReadsAtMost};
 ghost use Rattle.std.specs.Io.KnownBytes.{Consumes, IsAtEnd};
 ghost use Rattle.buffers.specs.Counts.{IsPrefixLen};
@@ -12,18 +12,12 @@ use std::io::Read;
 use std::rt::Files;
 use std::{fs, io, str};
 
-// A buffer of 4,096 places. A call, since the check computes with every place of an array that is written out.
-pub fn small() -> [u8; 4096]
-    ensures { 4096 ≡ length result }
+// A buffer of N places, each 0. A call, since the check computes with every place of an array that is written out.
+pub fn zeroed<const N: usize>() -> [u8; N]
+    ensures places { N ≡ length result }
+    ensures zeros { EachIndex result (λ k. slice_index result k ≡ 0) }
 {
-    [0; 4096]
-}
-
-// A buffer of 65,536 places.
-pub fn large() -> [u8; 65536]
-    ensures { 65536 ≡ length result }
-{
-    [0; 65536]
+    [0; N]
 }
 
 // Reads until the buffer is full or the input ends. Of an input whose bytes are known: the buffer has those that it had left, and where
@@ -68,18 +62,12 @@ pub fn read_file(rt: &impl Files, name: &[u8], buffer: &mut [u8]) -> usize
 pub fn word(rt: &impl Env, place: usize, buffer: &mut [u8]) -> usize
     ensures { IsPrefixLen result buffer.new }
 {
-    match rt.arg(place, buffer) {
-        Ok(n) => n,
-        Err(_) => 0,
-    }
+    rt.arg(place, buffer).unwrap_or(0)
 }
 
 // How many words the program was given, with its own name.
 pub fn word_count(rt: &impl Env) -> usize {
-    for place in 0..usize::MAX {
-        if let Err(FillError::NotPresent) = rt.arg(place, &mut []) {
-            return place;
-        }
-    }
-    usize::MAX
+    (0..usize::MAX)
+        .find(|place| matches!(rt.arg(*place, &mut []), Err(FillError::NotPresent)))
+        .unwrap_or(usize::MAX)
 }

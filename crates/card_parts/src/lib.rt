@@ -11,38 +11,41 @@ use rules::{
 pub fn lot_good(attribute: u16, containers: u16) -> bool
     ensures { result ≡ lot_good attribute containers }
 {
-    (attribute <= 2) & (1 <= containers)
+    attribute <= 2 && 1 <= containers
 }
 
 fn seeds_good(attribute: u16, n: u16) -> bool
     ensures { result ≡ seeds_good attribute n }
 {
     if attribute <= 1 {
-        return (1 <= n) & (n <= MOST_SEEDS);
+        (1..=MOST_SEEDS).contains(&n)
+    } else {
+        n == 0
     }
-    n == 0
 }
 
 // Whether F, G and n are good.
 pub fn head_good(attribute: u16, h: Head) -> bool
     ensures { result ≡ head_good attribute h }
 {
-    (LEAST_FACTOR <= h.factor)
-        & ((h.factor <= MOST_FACTOR) & ((h.offset <= MOST_OFFSET) & seeds_good(attribute, h.seeds)))
+    (LEAST_FACTOR..=MOST_FACTOR).contains(&h.factor)
+        && h.offset <= MOST_OFFSET
+        && seeds_good(attribute, h.seeds)
 }
 
 // Whether N of a critical frame may follow that of the critical frame before, 0 for none.
 pub fn critical_follows(last: u16, n: u16) -> bool
     ensures { result ≡ critical_follows last n }
 {
-    let n = n as usize;
-    (LEAST_REPORTED <= n) & ((n <= MOST_HELD) & ((last as usize) < n))
+    (LEAST_REPORTED..=MOST_HELD).contains(&usize::from(n)) && last < n
 }
 
 // Whether a range row is good.
 pub fn row_good(lowest: u16, highest: u16, bound: u16) -> bool
     ensures { result ≡ row_good lowest highest bound }
 {
-    (LEAST_REPORTED <= lowest as usize)
-        & ((lowest <= highest) & ((highest as usize <= MOST_HELD) & (bound <= HIGHEST_X)))
+    LEAST_REPORTED <= usize::from(lowest)
+        && lowest <= highest
+        && usize::from(highest) <= MOST_HELD
+        && bound <= HIGHEST_X
 }

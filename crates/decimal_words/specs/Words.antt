@@ -1,9 +1,7 @@
 -- A word read as a decimal number of 32 bits.
-use Rattle.std.specs.Prelude.{List, ℕ, min}
+use Rattle.std.specs.Prelude.{Bool, List, ℕ, min, Option, Some, None}
 use Rattle.rules.specs.Choice.{pick}
 use Rattle.rules.specs.Decimals.{decimal_value, is_number}
-use Rattle.decimal_words.specs.declared.Word.{Word}
-use Rattle.decimal_words.specs.declared.Word.TheVariants.{Number, NotANumber}
 
 -- the largest number of 32 bits
 abbrev pub largest32 : ℕ
@@ -17,5 +15,9 @@ capped n = min n largest32
 abbrev pub word_value : List ℕ → ℕ
 word_value word = capped (decimal_value word)
 
-abbrev pub word_of : List ℕ → Word
-word_of word = pick (is_number word) (Number (word_value word)) NotANumber
+-- a number where the test holds, or none
+abbrev pub when : Bool → ℕ → Option ℕ
+when b n = pick b (Some n) None
+
+abbrev pub word_of : List ℕ → Option ℕ
+word_of word = when (is_number word) (word_value word)

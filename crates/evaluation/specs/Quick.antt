@@ -12,13 +12,13 @@ use Rattle.rules.specs.Cards.{rows_good, criticals_good}
 use Rattle.rules.specs.Rounding.{nearest_of, side_of}
 use Rattle.rules.specs.Attributes.{is_void, mean_scale}
 use Rattle.rules.specs.Figures.{mean_of, ratio, reported_h, exceeds, tolerated_upto}
-use Rattle.rules.specs.Report.{findings_of, count_line, mark_text, mean_line, verdict_word, limit_text, value_line, lot_word, lot_verdict_line, findings_text, report_text}
+use Rattle.rules.specs.Report.{findings_of, count_line, mark_text, mean_line, verdict_word, limit_text, value_line, lot_word, lot_verdict_line, judgement_text, findings_text, report_text}
 use Rattle.rules.specs.Fields.{all_digits, value_of, number_behind, number, field_of}
 use Rattle.rules.specs.Frames.{lot_frame, card_frame, critical_frame, range_frame, result_frame, end_frame, balance_frame, kind_frame, frame_of}
 use Rattle.rules.specs.Stages.{is_ended}
 use Rattle.rules.specs.Reading.{State, Next, goes, stops, result_by, lot_step, card_step, critical_step, range_step, end_step, at_start}
 use Rattle.rules.specs.Printing.{refused_line}
-use Rattle.rules.specs.declared.Answered.{Answered}
+use Rattle.rules.specs.Numbers.{Answered}
 use Rattle.rules.specs.declared.Frame.{Frame}
 use Rattle.rules.specs.declared.Frame.TheVariants as frame
 use Rattle.reading_theorems.specs.Spelling.{Entry, entry_of}
@@ -100,5 +100,5 @@ reporting = record { fault = refused_line; result = report }
 
 -- with every definition on the way from the results to the printed bytes
 unfoldable pub quick_report : Bool → List ℕ → Evaluated
-unfolding quickly report gathered figures_over refused_line findings_text findings_of count_line mark_text mean_line value_line lot_verdict_line lot_word limit_text verdict_word pointed decimal decimals last_digits mean_of mean_scale is_void ratio reported_h exceeds tolerated_upto nearest_of side_of
+unfolding quickly report gathered figures_over refused_line findings_text judgement_text findings_of count_line mark_text mean_line value_line lot_verdict_line lot_word limit_text verdict_word pointed decimal decimals last_digits mean_of mean_scale is_void ratio reported_h exceeds tolerated_upto nearest_of side_of
 quick_report whole bytes = quickly reporting whole bytes

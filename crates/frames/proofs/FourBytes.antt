@@ -10,8 +10,11 @@ use lib.Bits.{bit_and, and_block, and_mask, and_zero_r}
 use Rattle.rules.specs.Fields.{is_digit, all_digits, value_of, field_of}
 use Rattle.rules.proofs.FieldLaws.{value_lt}
 use Rattle.cutter.proofs.Lines.{digit_at}
-use Rattle.frames.specs.Words.{four_bytes, word_at, values_at}
-use Rattle.frames.proofs.Digits.{value_by_byte, digit_lt, field_four}
+use Rattle.frames.proofs.DigitLaws.{value_by_byte, digit_lt, field_four}
+
+-- the first is the lowest
+abbrev four_bytes : ℕ → ℕ → ℕ → ℕ → ℕ
+four_bytes a b c d = a + 256 * (b + 256 * (c + 256 * d))
 
 -- ---- a mask goes byte by byte
 and_byte : (x m a n : ℕ) → x < 256 → m < 256 → bit_and (x + 256 * a) (m + 256 * n) ≡ bit_and x m + 256 * bit_and a n
@@ -69,11 +72,14 @@ high_ones a b c d ha hb hc hd =
     ∙ rw (over_bit a _ ha, over_bit b _ hb, over_bit c _ hc, last) refl
 
 -- ---- the values of four digits
+abbrev values_in : ℕ → ℕ
+values_in w = bit_and w 252645135 + 9 * bit_and (w / 64) 16843009
+
 nines : (a b c d e f g h : ℕ) → four_bytes a b c d + 9 * four_bytes e f g h ≡ four_bytes (a + e * 9) (b + f * 9) (c + g * 9) (d + h * 9)
 nines a b c d e f g h = omega arith
 
 values : (a b c d : ℕ) → is_digit a ≡ true → is_digit b ≡ true → is_digit c ≡ true → is_digit d ≡ true
-    → bit_and (four_bytes a b c d) 252645135 + 9 * bit_and (four_bytes a b c d / 64) 16843009 ≡ four_bytes (value_of a) (value_of b) (value_of c) (value_of d)
+    → values_in (four_bytes a b c d) ≡ four_bytes (value_of a) (value_of b) (value_of c) (value_of d)
 values a b c d da db dc dd =
     let ha = digit_lt a da in
     let hb = digit_lt b db in
@@ -101,23 +107,26 @@ pairs a b c d ha hb hc hd =
     ∙ ap number_of (first_third (16 * a + b) (16 * b + c) (16 * c + d) (16 * d) (omega arith) (omega arith) (omega arith))
     ∙ number_is_lem (16 * a + b) (16 * c + d) (omega arith) (omega arith)
 
--- ---- the four digits of a line from a place on
-module _ (l : List ℕ) (a : ℕ) where
-  pub values_is : (w : ℕ) → w ≡ word_at l a → a + 4 ≤ length l → all_digits l ≡ true
-      → bit_and w 252645135 + 9 * bit_and (w / 64) 16843009 ≡ values_at l a
-  values_is w is h e =
-      ap (λ (x : ℕ). bit_and x 252645135 + 9 * bit_and (x / 64) 16843009) is
-      ∙ values _ _ _ _ (digit_at l a e (omega arith)) (digit_at l (a + 1) e (omega arith)) (digit_at l (a + 2) e (omega arith))
-      (digit_at l (a + 3) e (omega arith))
+-- ---- the four digits of a line from a place on, and the number w of their bytes
+module _ (l : List ℕ) (a w : ℕ) (digits : all_digits l ≡ true) (h : a + 4 ≤ length l)
+    (is : w ≡ four_bytes (get_or l a 0) (get_or l (a + 1) 0) (get_or l (a + 2) 0) (get_or l (a + 3) 0)) where
+  abbrev value : ℕ → ℕ
+  value i = value_of (get_or l i 0)
 
-  small : (i : ℕ) → value_of (get_or l i 0) < 16
+  small : (i : ℕ) → value i < 16
   small i = value_lt (get_or l i 0)
 
-  pub values_le : values_at l a ≤ 252645135
-  values_le = omega (arith, small a, small (a + 1), small (a + 2), small (a + 3))
+  values_are : values_in w ≡ four_bytes (value a) (value (a + 1)) (value (a + 2)) (value (a + 3))
+  values_are =
+      ap values_in is
+      ∙ values _ _ _ _ (digit_at l a digits (omega arith)) (digit_at l (a + 1) digits (omega arith)) (digit_at l (a + 2) digits (omega arith))
+      (digit_at l (a + 3) digits (omega arith))
 
-  pub four_is : (v : ℕ) → v ≡ values_at l a → a + 4 ≤ length l → number_of (pairs_of v) ≡ field_of l a 4
-  four_is v is h =
-      ap (λ (x : ℕ). number_of (pairs_of x)) is
+  pub values_le : values_in w ≤ 252645135
+  values_le = omega (arith, values_are, small a, small (a + 1), small (a + 2), small (a + 3))
+
+  pub four_is : number_of (pairs_of (values_in w)) ≡ field_of l a 4
+  four_is =
+      ap (λ (x : ℕ). number_of (pairs_of x)) values_are
       ∙ pairs _ _ _ _ (small a) (small (a + 1)) (small (a + 2)) (small (a + 3))
       ∙ sym (field_four l a h)

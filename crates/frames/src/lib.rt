@@ -1,10 +1,9 @@
 // A line's fields of hexadecimal digits, and the frame that a line is.
 #![tactic(auto)]
 
-ghost use Rattle.std.specs.Prelude.{◌≡◌, true, ◌+◌, ◌≤◌, length};
-ghost use Rattle.rules.specs.Fields.{is_digit, all_digits, value_of, field_of};
-ghost use Rattle.rules.specs.Frames.{lot_frame, card_frame, critical_frame, range_frame, result_frame, end_frame, float_of, balance_frame, kind_frame, frame_of};
-ghost use Rattle.frames.specs.Words.{word_at, values_at};
+ghost use Rattle.std.specs.Prelude.{◌≡◌, true, ◌+◌, ◌≤◌, ◌<◌, length, get_or};
+ghost use Rattle.rules.specs.Fields.{all_digits, value_of, field_of};
+ghost use Rattle.rules.specs.Frames.{float_of, frame_of};
 ghost use Rattle.frames.specs.Promise.{LineAt};
 
 use rules::{
@@ -19,209 +18,140 @@ pub struct FramedLine {
     pub end: usize,
 }
 
-// A digit's value: the byte of A is 65, one above 64, and that of 0 is 48. Without a branch, since nothing foretells which digits are
-// letters.
-fn digit_value(c: u8) -> u16
-    requires { is_digit c ≡ true }
-    ensures { result ≡ value_of c }
-{
-    (c % 16 + c / 64 * 9) as u16
+// A line that has nothing but digits.
+#[derive(Clone, Copy)]
+struct Digits<'a> {
+    line: &'a [u8],
+    ghost all_digits: { all_digits line.now ≡ true },
 }
 
-// The field of two digits from `from` on.
-fn two(line: &[u8], from: usize) -> u16
-    requires { (from + 2 ≤ length line.now) × (all_digits line.now ≡ true) }
-    ensures { result ≡ field_of line.now from 2 }
-{
-    digit_value(line[from]) * 16 + digit_value(line[from + 1])
-}
-
-// Four bytes as one number, the first the lowest. A sum of products: the compiler makes one load of it.
-fn word(line: &[u8], from: usize) -> u32
-    requires { from + 4 ≤ length line.now }
-    ensures { result ≡ word_at line.now from }
-{
-    line[from] as u32
-        + 256 * line[from + 1] as u32
-        + 65536 * line[from + 2] as u32
-        + 16777216 * line[from + 3] as u32
-}
-
-// The values of the four digits from `from` on, a byte each, the first the lowest. Each is made as in `digit_value`, but all four at
-// once: that takes as many steps as one.
-fn values(line: &[u8], from: usize) -> u32
-    requires { (from + 4 ≤ length line.now) × (all_digits line.now ≡ true) }
-    ensures { result ≡ values_at line.now from }
-{
-    let w = word(line, from);
-    (w & 0x0F0F0F0F) + 9 * (w / 64 & 0x01010101)
-}
-
-// The field of four digits from `from` on. The first byte of `p` is the number of the first two, and its third that of the last two.
-fn four(line: &[u8], from: usize) -> u16
-    requires { (from + 4 ≤ length line.now) × (all_digits line.now ≡ true) }
-    ensures { result ≡ field_of line.now from 4 }
-{
-    let v = values(line, from);
-    let p = (16 * v + v / 256) & 0x00FF00FF;
-    (256 * (p % 256) + p / 65536) as u16
-}
-
-fn lot_frame(line: &[u8]) -> Frame
-    requires { all_digits line.now ≡ true }
-    ensures { result ≡ lot_frame line.now }
-{
-    if line.len() == LOT_DIGITS {
-        return Frame::Lot {
-            attribute: two(line, 2),
-            containers: four(line, 4),
-        };
+impl Digits<'_> {
+    // The value of the digit at `at`: the byte of A is 65, one above 64, and that of 0 is 48. Without a branch, since nothing foretells
+    // which digits are letters.
+    #[tactic(auto, using(crate::proofs::DigitLaws::value_by_byte, cutter::proofs::Lines::digit_at))]
+    fn digit(&self, at: usize) -> u16
+        requires { at < length self.now.line.now }
+        ensures { result ≡ value_of (get_or self.now.line.now at 0) }
+    {
+        let c = self.line[at];
+        (c % 16 + c / 64 * 9) as u16
     }
-    Frame::Bad
-}
 
-fn card_frame(line: &[u8]) -> Frame
-    requires { all_digits line.now ≡ true }
-    ensures { result ≡ card_frame line.now }
-{
-    if line.len() == CARD_DIGITS {
-        return Frame::Card {
-            factor: two(line, 2),
-            offset: two(line, 4),
-            seeds: four(line, 6),
-        };
+    // The field of two digits from `from` on.
+    #[tactic(auto, using(crate::proofs::DigitLaws::field_two, rules::proofs::FieldLaws::value_lt))]
+    fn two(&self, from: usize) -> u16
+        requires { from + 2 ≤ length self.now.line.now }
+        ensures { result ≡ field_of self.now.line.now from 2 }
+    {
+        self.digit(from) * 16 + self.digit(from + 1)
     }
-    Frame::Bad
-}
 
-fn critical_frame(line: &[u8]) -> Frame
-    requires { all_digits line.now ≡ true }
-    ensures { result ≡ critical_frame line.now }
-{
-    if line.len() == CRITICAL_DIGITS {
-        return Frame::Critical {
-            count: two(line, 2),
-            value: four(line, 4),
-        };
+    // The field of four digits from `from` on, read as one number of four bytes, the first the lowest: each step is taken on all four at
+    // once. `values` has a digit's value in each byte, made as in `digit`; `pairs` has the number of the first two digits in its first
+    // byte, and that of the last two in its third. One function for two and four digits, a loop over them, reads a sheet's lines in a
+    // quarter more time.
+    #[tactic(auto, using(crate::proofs::FourBytes::values_le, crate::proofs::FourBytes::four_is))]
+    fn four(&self, from: usize) -> u16
+        requires { from + 4 ≤ length self.now.line.now }
+        ensures { result ≡ field_of self.now.line.now from 4 }
+    {
+        let line = self.line;
+        let bytes = u32::from_le_bytes([
+            line[from],
+            line[from + 1],
+            line[from + 2],
+            line[from + 3],
+        ]);
+        let values = (bytes & 0x0F0F0F0F) + 9 * (bytes / 64 & 0x01010101);
+        let pairs = (16 * values + values / 256) & 0x00FF00FF;
+        (256 * (pairs % 256) + pairs / 65536) as u16
     }
-    Frame::Bad
-}
 
-fn range_frame(line: &[u8]) -> Frame
-    requires { all_digits line.now ≡ true }
-    ensures { result ≡ range_frame line.now }
-{
-    if line.len() == RANGE_DIGITS {
-        return Frame::Range {
-            lowest: two(line, 2),
-            highest: two(line, 4),
-            bound: four(line, 6),
-            tolerated: four(line, 10),
-        };
+    // The float of the 8 digits from `from` on: four and four.
+    #[tactic(auto, using(crate::proofs::DigitLaws::field_halves))]
+    fn float_at(&self, from: usize) -> f32
+        requires { from + 8 ≤ length self.now.line.now }
+        ensures { result ≡ float_of self.now.line.now from }
+    {
+        let high = self.four(from) as u32;
+        let low = self.four(from + 4) as u32;
+        weights::float(high * 65536 + low)
     }
-    Frame::Bad
-}
 
-fn result_frame(line: &[u8]) -> Frame
-    requires { all_digits line.now ≡ true }
-    ensures { result ≡ result_frame line.now }
-{
-    if line.len() == RESULT_DIGITS {
-        return Frame::Result {
-            container: four(line, 2),
-            x: four(line, 6),
-        };
+    // The two floats from `from` on: component and remainder.
+    fn pans(&self, from: usize) -> Pans
+        requires { from + 16 ≤ length self.now.line.now }
+        ensures component { result.component ≡ float_of self.now.line.now from }
+        ensures remainder { result.remainder ≡ float_of self.now.line.now (from + 8) }
+    {
+        Pans {
+            component: self.float_at(from),
+            remainder: self.float_at(from + 8),
+        }
     }
-    Frame::Bad
-}
 
-fn end_frame(line: &[u8]) -> Frame
-    requires { all_digits line.now ≡ true }
-    ensures { result ≡ end_frame line.now }
-{
-    if line.len() == END_DIGITS {
-        return Frame::End {
-            count: two(line, 2),
-        };
-    }
-    Frame::Bad
-}
-
-// The float of the 8 digits from `from` on: four and four.
-fn float_at(line: &[u8], from: usize) -> f32
-    requires { (from + 8 ≤ length line.now) × (all_digits line.now ≡ true) }
-    ensures { result ≡ float_of line.now from }
-{
-    let high = four(line, from) as u32;
-    let low = four(line, from + 4) as u32;
-    weights::float(high * 65536 + low)
-}
-
-fn balance_frame(line: &[u8]) -> Frame
-    requires { all_digits line.now ≡ true }
-    ensures { result ≡ balance_frame line.now }
-{
-    if line.len() == BALANCE_DIGITS {
-        return Frame::Balance {
-            container: four(line, 2),
-            status: two(line, 6),
-            pans: Pans {
-                component: float_at(line, 8),
-                remainder: float_at(line, 16),
+    // What the line says: the frame of its kind, if it has as many digits as that has, else a bad line. The kind is a number as the line's
+    // first two digits give it, and nothing else asks for it.
+    #[tactic(auto, unfolding(
+    // a line, by its kind
+    rules::specs::Frames::frame_of, rules::specs::Frames::kind_frame,
+    // lot and card
+    rules::specs::Frames::lot_frame, rules::specs::Frames::card_frame,
+    // the card's further lines
+    rules::specs::Frames::critical_frame, rules::specs::Frames::range_frame,
+    // results
+    rules::specs::Frames::result_frame, rules::specs::Frames::balance_frame, rules::specs::Frames::end_frame))]
+    fn frame(&self) -> Frame
+        ensures { result ≡ frame_of self.now.line.now }
+    {
+        if self.line.len() < 2 {
+            return Frame::Bad;
+        }
+        match (self.two(0), self.line.len()) {
+            (1, LOT_DIGITS) => Frame::Lot {
+                attribute: self.two(2),
+                containers: self.four(4),
             },
-        };
+            (2, CARD_DIGITS) => Frame::Card {
+                factor: self.two(2),
+                offset: self.two(4),
+                seeds: self.four(6),
+            },
+            (3, CRITICAL_DIGITS) => Frame::Critical {
+                count: self.two(2),
+                value: self.four(4),
+            },
+            (4, RANGE_DIGITS) => Frame::Range {
+                lowest: self.two(2),
+                highest: self.two(4),
+                bound: self.four(6),
+                tolerated: self.four(10),
+            },
+            (5, RESULT_DIGITS) => Frame::Result {
+                container: self.four(2),
+                x: self.four(6),
+            },
+            (6, END_DIGITS) => Frame::End { count: self.two(2) },
+            (7, BALANCE_DIGITS) => Frame::Balance {
+                container: self.four(2),
+                status: self.two(6),
+                pans: self.pans(8),
+            },
+            _ => Frame::Bad,
+        }
     }
-    Frame::Bad
-}
-
-// The frame of a line of digits, by its kind.
-fn kind_frame(kind: u16, line: &[u8]) -> Frame
-    requires { all_digits line.now ≡ true }
-    ensures { result ≡ kind_frame kind line.now }
-{
-    match kind {
-        1 => lot_frame(line),
-        2 => card_frame(line),
-        3 => critical_frame(line),
-        4 => range_frame(line),
-        5 => result_frame(line),
-        6 => end_frame(line),
-        7 => balance_frame(line),
-        _ => Frame::Bad,
-    }
-}
-
-// What a line of digits says.
-fn frame_of(line: &[u8]) -> Frame
-    requires { all_digits line.now ≡ true }
-    ensures { result ≡ frame_of line.now }
-{
-    if line.len() < 2 {
-        return Frame::Bad;
-    }
-    kind_frame(two(line, 0), line)
 }
 
 // What the line that starts at `at` says. A line with another byte than digits, or without its end byte, is a bad one.
 pub fn line_at(sheet: &[u8], at: usize) -> FramedLine
     ensures { LineAt sheet.now at result }
 {
-    let digits = cutter::cut(sheet, at);
-    let end = at + digits.len();
-    if sheet.len() <= end {
-        return FramedLine {
-            frame: Frame::Bad,
-            end: end,
-        };
-    }
-    if sheet[end] != b'\n' {
-        return FramedLine {
-            frame: Frame::Bad,
-            end: end,
-        };
-    }
-    FramedLine {
-        frame: frame_of(digits),
-        end: end,
-    }
+    let line = cutter::cut(sheet, at);
+    let end = at + line.len();
+    let frame = if sheet.get(end) == Some(&b'\n') {
+        Digits { line }.frame()
+    } else {
+        Frame::Bad
+    };
+    FramedLine { frame, end }
 }

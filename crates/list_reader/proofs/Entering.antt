@@ -1,11 +1,12 @@
 -- The lines of a comma list one after another: one law for each way the reader goes. Assumes nothing.
 use mathlib.Core.Path.{◌≡◌, refl, sym, ap, ◌∙◌, subst}
 use mathlib.Core.List.{List}
+use Rattle.std.specs.Prelude.{Result, Ok, Err, ⊤}
 use Prim.Native.Nat.{ℕ, ◌+◌, ◌-◌, ◌≤◌, ◌<◌}
 use native.Mathlib.Omega.{arith}
 use lib.ListN.{length, drop}
 use borrow.Author.Tests.{eq-eqb, ne_eqb}
-use Rattle.rules.specs.Numbers.{number_of}
+use Rattle.rules.specs.Numbers.{number_in}
 use Rattle.rules.specs.Lines.{lines_of}
 use Rattle.rules.specs.Attributes.{attribute_of}
 use Rattle.rules.specs.Ledger.{Ledger, Judged}
@@ -14,12 +15,10 @@ use Rattle.rules.specs.declared.Attribute.{Attribute}
 use Rattle.rules.specs.declared.Lot.{Lot}
 use Rattle.rules.specs.declared.Card.{Card}
 use Rattle.rules.specs.declared.Refusal.{Refusal}
-use Rattle.rules.specs.declared.Refusal.TheVariants.{Accepted, BadListLine}
+use Rattle.rules.specs.declared.Refusal.TheVariants.{BadListLine}
 use Rattle.cutter.specs.Runs.{line_at}
 use Rattle.cutter.proofs.Lines.{lines_ended, lines_unended, lines_none}
 use Rattle.list_lines.specs.Lines.{entry_on, ReadAt}
-use Rattle.list_lines.specs.declared.Entry.{Entry}
-use Rattle.list_lines.specs.declared.Entry.TheVariants as entry
 use Rattle.list_lines.specs.declared.LineRead.{LineRead}
 use Rattle.list_lines.proofs.LineLaws.{line_kept}
 use Rattle.tally.specs.View.{tally_of, view}
@@ -27,18 +26,6 @@ use Rattle.tally.specs.Calls.{Sound, Enters, held_after}
 use Rattle.tally.specs.declared.Tally.{Tally}
 use Rattle.list_reader.specs.declared.Taken.{Taken}
 use Rattle.list_reader.specs.Promise.{EntersEntry, told_by, Takes, Lists}
-
--- ---- one line
-pub entry_result : (l : Lot) (ks vs : List ℕ) (n k x : ℕ) (e : Refusal) (ks' vs' : List ℕ) (t : Entry) → t ≡ entry.Result k x → Enters l ks vs n k x e ks' vs' → EntersEntry l ks vs n t e ks' vs'
-entry_result l ks vs n k x e ks' vs' t q h = rw q (record { room = h.room; answers = h.answers })
-
-pub entry_bad : (l : Lot) (ks vs : List ℕ) (n : ℕ) (t : Entry) → t ≡ entry.Bad → EntersEntry l ks vs n t BadListLine ks vs
-entry_bad l ks vs n t q =
-    rw q
-    (record {
-      room = λ z. absurd (omega arith);
-      answers = λ c. record { kept = λ h. refl; right = λ s. refl; sound = λ s. s };
-    })
 
 -- ---- what is left of the list s from a on, where the ledger is g and the next line has the number n
 unfoldable pub left : Ledger → List ℕ → ℕ → Ledger → ℕ → Listed
@@ -87,7 +74,7 @@ module _ (l : Lot) (s ks₀ vs₀ : List ℕ) (m₀ : ℕ) (ks vs : List ℕ) (m
   abbrev is : Card → Tally
   is c = tally_of l c ks vs m
 
-  pub taken_all : length s ≤ a → Takes l ks₀ vs₀ m₀ s (record { refusal = Accepted; line = 0; held = m }) ks vs
+  pub taken_all : length s ≤ a → Takes l ks₀ vs₀ m₀ s (record { answer = Ok tt; line = 0; held = m }) ks vs
   unfolding told_by
   taken_all h =
       record {
@@ -99,7 +86,7 @@ module _ (l : Lot) (s ks₀ vs₀ : List ℕ) (m₀ : ℕ) (ks vs : List ℕ) (m
     end_is : f.end ≡ a + length (line_at s a)
     end_is = omega (arith, at.end)
 
-    pub taken_unended : length s ≤ f.end → Takes l ks₀ vs₀ m₀ s (record { refusal = BadListLine; line = n; held = m }) ks vs
+    pub taken_unended : length s ≤ f.end → Takes l ks₀ vs₀ m₀ s (record { answer = Err BadListLine; line = n; held = m }) ks vs
     unfolding told_by
     taken_unended h =
         record {
@@ -107,9 +94,9 @@ module _ (l : Lot) (s ks₀ vs₀ : List ℕ) (m₀ : ℕ) (ks vs : List ℕ) (m
           sound = r.sound;
         }
 
-    module _ (whole : f.end < length s) (e : Refusal) (ks' vs' : List ℕ) (t : EntersEntry l ks vs m f.entry e ks' vs') where
+    module _ (whole : f.end < length s) (e : Result ⊤ Refusal) (ks' vs' : List ℕ) (t : EntersEntry l ks vs m f.entry e ks' vs') where
       abbrev step : Card → Judged
-      step c = record { number = number_of e; ledger = view (tally_of l c ks' vs' (held_after e m)) }
+      step c = record { number = number_in e; ledger = view (tally_of l c ks' vs' (held_after e m)) }
 
       stepped : (c : Card) → Sound (is c) → line_on (view (is c)) (say_of (attribute_of l.attribute) (line_at s a)) ≡ step c
       stepped c k =
@@ -121,15 +108,15 @@ module _ (l : Lot) (s ks₀ vs₀ : List ℕ) (m₀ : ℕ) (ks vs : List ℕ) (m
           r.same c k
           ∙ left_line (view (was c)) s a (view (is c)) n r.from (omega (arith, end_is)) (step c) (stepped c (r.sound c k))
 
-      pub taken_stopped : (number_of e ≡ 0 → ⊥) → Takes l ks₀ vs₀ m₀ s (record { refusal = e; line = n; held = m }) ks' vs'
+      pub taken_stopped : (number_in e ≡ 0 → ⊥) → Takes l ks₀ vs₀ m₀ s (record { answer = e; line = n; held = m }) ks' vs'
       unfolding told_by
       taken_stopped z =
           record {
-            right = λ c k. after c k ∙ rw (ne_eqb (number_of e) 0 z) refl;
-            sound = λ c k. subst (λ (i : ℕ). Sound (tally_of l c ks' vs' i)) (rw (ne_eqb (number_of e) 0 z) refl) ((t.answers c).sound (r.sound c k));
+            right = λ c k. after c k ∙ rw (ne_eqb (number_in e) 0 z) refl;
+            sound = λ c k. subst (λ (i : ℕ). Sound (tally_of l c ks' vs' i)) (rw (ne_eqb (number_in e) 0 z) refl) ((t.answers c).sound (r.sound c k));
           }
 
-      pub reached_more : number_of e ≡ 0 → Reached l s ks₀ vs₀ m₀ ks' vs' (m + 1) (f.end + 1) (n + 1)
+      pub reached_more : number_in e ≡ 0 → Reached l s ks₀ vs₀ m₀ ks' vs' (m + 1) (f.end + 1) (n + 1)
       unfolding left
       reached_more z =
           let q : n + 1 - 1 ≡ n = omega arith in
@@ -137,26 +124,26 @@ module _ (l : Lot) (s ks₀ vs₀ : List ℕ) (m₀ : ℕ) (ks vs : List ℕ) (m
             within = omega arith;
             from = omega arith;
             most = omega (arith, r.most, end_is);
-            sound = λ c k. subst (λ (i : ℕ). Sound (tally_of l c ks' vs' i)) (rw (eq-eqb (number_of e) 0 z) refl) ((t.answers c).sound (r.sound c k));
-            same = λ c k. after c k ∙ rw (eq-eqb (number_of e) 0 z, end_is, q) refl;
+            sound = λ c k. subst (λ (i : ℕ). Sound (tally_of l c ks' vs' i)) (rw (eq-eqb (number_in e) 0 z) refl) ((t.answers c).sound (r.sound c k));
+            same = λ c k. after c k ∙ rw (eq-eqb (number_in e) 0 z, end_is, q) refl;
           }
 
 -- ---- the call
 module _ (t : Tally) (s : List ℕ) (r : Taken) (ks vs : List ℕ) (h : Takes t.lot t.containers t.results t.held s r ks vs) where
-  pub list_refused : (number_of r.refusal ≡ 0 → ⊥) → Lists t s (record { refusal = r.refusal; line = r.line; tally = t })
+  pub list_refused : (number_in r.answer ≡ 0 → ⊥) → Lists t s (record { answer = r.answer; line = r.line; tally = t })
   unfolding told_by
   list_refused z =
       record {
         kept = λ k. refl;
-        right = λ k. sym (h.right t.card k ∙ rw (ne_eqb (number_of r.refusal) 0 z) refl);
+        right = λ k. sym (h.right t.card k ∙ rw (ne_eqb (number_in r.answer) 0 z) refl);
         sound = λ k. k;
       }
 
-  pub list_accepted : number_of r.refusal ≡ 0 → Lists t s (record { refusal = r.refusal; line = r.line; tally = tally_of t.lot t.card ks vs r.held })
+  pub list_accepted : number_in r.answer ≡ 0 → Lists t s (record { answer = r.answer; line = r.line; tally = tally_of t.lot t.card ks vs r.held })
   unfolding told_by
   list_accepted z =
       record {
         kept = λ k. absurd (k z);
-        right = λ k. sym (h.right t.card k ∙ rw (eq-eqb (number_of r.refusal) 0 z) refl);
+        right = λ k. sym (h.right t.card k ∙ rw (eq-eqb (number_in r.answer) 0 z) refl);
         sound = h.sound t.card;
       }

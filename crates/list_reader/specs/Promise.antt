@@ -1,8 +1,8 @@
 -- What the reading of a comma list into a tally promises.
-use Rattle.std.specs.Prelude.{◌≡◌, List, ℕ, ◌<◌, eqb}
+use Rattle.std.specs.Prelude.{◌≡◌, List, ℕ, ◌<◌, eqb, Option, Result, ⊤}
 use Rattle.rules.specs.Choice.{pick}
 use Rattle.rules.specs.Limits.{most_held}
-use Rattle.rules.specs.Numbers.{number_of}
+use Rattle.rules.specs.Numbers.{number_in}
 use Rattle.rules.specs.Ledger.{Ledger}
 use Rattle.rules.specs.ListReading.{Listed, list_on}
 use Rattle.rules.specs.declared.Lot.{Lot}
@@ -18,25 +18,25 @@ use Rattle.list_reader.specs.declared.Listing.{Listing}
 
 -- an answer as the definition has it
 abbrev pub listed : Listing → Listed
-listed r = record { number = number_of r.refusal; line = r.line; ledger = view r.tally }
+listed r = record { number = number_in r.answer; line = r.line; ledger = view r.tally }
 
 -- The list s read into t: number, line and ledger are those of the definition where t is sound. A refused list leaves the very tally,
 -- on any tally.
 pub record Lists (t : Tally) (s : List ℕ) (r : Listing) : Type 0 where
-  pub kept : (number_of r.refusal ≡ 0 → ⊥) → r.tally ≡ t
+  pub kept : (number_in r.answer ≡ 0 → ⊥) → r.tally ≡ t
   pub right : Sound t → listed r ≡ list_on (view t) s
   pub sound : Sound t → Sound r.tally
 
 -- ---- on the lists of a tally, whatever its card
 -- a line
-pub record EntersEntry (l : Lot) (ks vs : List ℕ) (n : ℕ) (t : Entry) (e : Refusal) (ks' vs' : List ℕ) : Type 0 where
-  pub room : number_of e ≡ 0 → n < most_held
+pub record EntersEntry (l : Lot) (ks vs : List ℕ) (n : ℕ) (t : Option Entry) (e : Result ⊤ Refusal) (ks' vs' : List ℕ) : Type 0 where
+  pub room : number_in e ≡ 0 → n < most_held
   pub answers : (c : Card) → let u = tally_of l c ks vs n in
       Answers (Sound u) u (entry_on (view u) t) (outcome_of e (tally_of l c ks' vs' (held_after e n)))
 
 -- what the lines that were taken say of the list, on the ledger `was`, where that of the lists afterwards is `after`
 unfoldable pub told_by : Taken → Ledger → Ledger → Listed
-told_by r was after = record { number = number_of r.refusal; line = r.line; ledger = pick (eqb (number_of r.refusal) 0) after was }
+told_by r was after = record { number = number_in r.answer; line = r.line; ledger = pick (eqb (number_in r.answer) 0) after was }
 
 -- the lines of the list s
 pub record Takes (l : Lot) (ks vs : List ℕ) (n : ℕ) (s : List ℕ) (r : Taken) (ks' vs' : List ℕ) : Type 0 where

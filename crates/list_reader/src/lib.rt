@@ -11,7 +11,7 @@ use tally::Tally;
 // tally after it.
 #[derive(Clone, Copy)]
 pub struct Listing {
-    pub refusal: Refusal,
+    pub answer: Result<(), Refusal>,
     pub line: usize,
     pub tally: Tally,
 }
@@ -19,7 +19,7 @@ pub struct Listing {
 // The answer, and how many results are held behind the lines that were entered.
 #[derive(Clone, Copy)]
 struct Taken {
-    refusal: Refusal,
+    answer: Result<(), Refusal>,
     line: usize,
     held: usize,
 }
@@ -30,15 +30,15 @@ fn enter_entry(
     containers: &mut [u16; MOST_HELD],
     results: &mut [u16; MOST_HELD],
     held: usize,
-    entry: Entry,
-) -> Refusal
+    entry: Option<Entry>,
+) -> Result<(), Refusal>
     ensures { EntersEntry lot containers.old results.old held entry result containers.new results.new }
 {
     match entry {
-        Entry::Result { container: k, x } => {
-            tally::enter_in(lot, containers, results, held, k, x)
+        Some(Entry { container, x }) => {
+            tally::enter_in(lot, containers, results, held, container, x)
         }
-        Entry::Bad => Refusal::BadListLine,
+        None => Err(Refusal::BadListLine),
     }
 }
 
@@ -56,21 +56,21 @@ fn take_lines(
     let mut line: usize = 1;
     let mut at: usize = 0;
     while at < list.len() {
-        let l = list_lines::line_at(Attribute::of(lot.attribute), list, at);
+        let l = list_lines::line_at(Attribute::from(lot.attribute), list, at);
         let end = l.end;
         if list.len() <= end {
             return Taken {
-                refusal: Refusal::BadListLine,
-                line: line,
+                answer: Err(Refusal::BadListLine),
+                line,
                 held: n,
             };
         }
         let entry = l.entry;
-        let e = enter_entry(lot, containers, results, n, entry);
-        if e.number() != 0 {
+        let answer = enter_entry(lot, containers, results, n, entry);
+        if answer.is_err() {
             return Taken {
-                refusal: e,
-                line: line,
+                answer,
+                line,
                 held: n,
             };
         }
@@ -79,7 +79,7 @@ fn take_lines(
         at = end + 1;
     }
     Taken {
-        refusal: Refusal::Accepted,
+        answer: Ok(()),
         line: 0,
         held: n,
     }
@@ -96,22 +96,22 @@ pub fn read_list(t: Tally, list: &[u8]) -> Listing
     let mut results = t.results;
     let mut held = t.held;
     let taken = take_lines(lot, &mut containers, &mut results, held, list);
-    let refusal = taken.refusal;
-    if refusal.number() == 0 {
+    let answer = taken.answer;
+    if answer.is_ok() {
         held = taken.held;
     } else {
         containers = t.containers;
         results = t.results;
     }
     Listing {
-        refusal: refusal,
+        answer,
         line: taken.line,
         tally: Tally {
-            lot: lot,
-            containers: containers,
-            held: held,
-            results: results,
-            card: card,
+            lot,
+            containers,
+            held,
+            results,
+            card,
         },
     }
 }

@@ -5,24 +5,16 @@
 ghost use Rattle.std.specs.Prelude.{◌≡◌};
 ghost use Rattle.narrowed.specs.Narrowed.{kept_container, kept_x};
 
-use rules::WIDEST;
-
 // No lot has container 0, as none has one above 65535.
 pub fn container(k: u32) -> u16
     ensures { result ≡ kept_container k }
 {
-    if WIDEST < k {
-        return 0;
-    }
-    k as u16
+    u16::try_from(k).unwrap_or(0)
 }
 
 // 65535 is too high, as every result above it is.
 pub fn result(x: u32) -> u16
     ensures { result ≡ kept_x x }
 {
-    if WIDEST < x {
-        return WIDEST as u16;
-    }
-    x as u16
+    u16::try_from(x).unwrap_or(u16::MAX)
 }

@@ -9,10 +9,9 @@ ghost use Rattle.program_input.specs.Input.{BeginsWith};
 pub const SHEET: usize = 4096;
 
 // The first `read` bytes of a buffer: they say what every input says that begins with them.
+#[tactic(auto, using(crate::proofs::Beginning::read_same))]
 pub fn sheet_of(buffer: &[u8; SHEET], read: usize) -> &[u8]
     ensures { (input : List ℕ) → BeginsWith input buffer.now read → read_of result.now ≡ read_of input }
 {
-    let all: &[u8] = buffer;
-    let n = checks::least(read, SHEET);
-    &all[..n]
+    &buffer[..read.min(SHEET)]
 }

@@ -5,13 +5,14 @@ use Prim.Native.Nat.{ℕ, ◌+◌, ◌≤◌}
 use native.Mathlib.Omega.{arith}
 use lib.Dec.{leb, ltb}
 use lib.ListN.{length, length-append}
+use Rattle.std.specs.Prelude.{Option, Some, None, ⊤}
 use Rattle.rules.specs.Choice.{pick}
 use Rattle.rules.specs.Limits.{least_reported}
 use Rattle.rules.specs.Text.{text}
 use Rattle.rules.specs.Attributes.{attribute_of, is_void, places_of_x, places_of_mean, mean_places}
-use Rattle.rules.specs.Figures.{figures, verdict_h, verdict_r, together}
+use Rattle.rules.specs.Figures.{figures}
 use Rattle.rules.specs.Ledger.{held}
-use Rattle.rules.specs.Report.{value_h, value_r, no_value, found_with, findings_of, count_line, mark_text, mean_line, verdict_word, limit_text, value_line, lot_word, lot_verdict_line, findings_text, report_of}
+use Rattle.rules.specs.Report.{judgement_of, found_with, findings_of, count_line, mark_text, mean_line, verdict_word, limit_text, value_line, lot_word, lot_verdict_line, judgement_text, findings_text, report_of}
 use Rattle.rules.specs.Reading.{SheetOutcome, accepted, refused, read_of}
 use Rattle.rules.specs.Printing.{refused_line, printed, printed_for}
 use Rattle.rules.specs.declared.Attribute.{Attribute}
@@ -19,8 +20,7 @@ use Rattle.rules.specs.declared.Attribute.TheVariants.{Purity, Germination, Coun
 use Rattle.rules.specs.declared.Card.{Card}
 use Rattle.rules.specs.declared.Figures.{Figures}
 use Rattle.rules.specs.declared.Findings.{Findings}
-use Rattle.rules.specs.declared.Limit.{Limit}
-use Rattle.rules.specs.declared.Limit.TheVariants.{Absent, At}
+use Rattle.rules.specs.declared.Judgement.{Judgement}
 use Rattle.rules.specs.declared.Side.{Side}
 use Rattle.rules.specs.declared.Side.TheVariants.{Unrounded, Equal, Larger, Smaller}
 use Rattle.rules.specs.declared.Value.{Value}
@@ -52,10 +52,10 @@ mean_most : (k n : ℕ) (s : Side) → k ≤ 3 → length (mean_line k n s) ≤ 
 unfolding mean_line
 mean_most k n s h = simp length-append (omega (arith, length_pointed_le k n, mark_most s))
 
-limit_most : (k : ℕ) (l : Limit) → k ≤ 2 → length (limit_text k l) ≤ 23
+limit_most : (k : ℕ) (l : Option ℕ) → k ≤ 2 → length (limit_text k l) ≤ 23
 unfolding limit_text
-limit_most k Absent h = omega arith
-limit_most k (At v) h = omega (arith, length_pointed_le k v)
+limit_most k None h = omega arith
+limit_most k (Some v) h = omega (arith, length_pointed_le k v)
 
 verdict_most : (w : Verdict) → length (verdict_word w) ≤ 4
 unfolding verdict_word
@@ -63,11 +63,10 @@ verdict_most Kept = omega arith
 verdict_most Over = omega arith
 verdict_most Undecided = omega arith
 
-value_most : (name : List ℕ) (void : Bool) (v : Value) → length name ≤ 2 → v.places ≤ 2 → length (value_line name void v) ≤ 56
+value_most : (name : List ℕ) (v : Value) → length name ≤ 2 → v.places ≤ 2 → length (value_line name v) ≤ 56
 unfolding value_line
-value_most name void v h k =
-    pick_most void _ _ 56 (simp length-append (omega arith))
-    (simp length-append (omega (arith, length_pointed_le v.places v.value, mark_most v.side, limit_most v.places v.limit k, verdict_most v.verdict)))
+value_most name v h k =
+    simp length-append (omega (arith, length_pointed_le v.places v.value, mark_most v.side, limit_most v.places v.limit k, verdict_most v.verdict))
 
 lot_word_most : (v : Verdict) → length (lot_word v) ≤ 13
 unfolding lot_word
@@ -75,15 +74,25 @@ lot_word_most Kept = omega arith
 lot_word_most Over = omega arith
 lot_word_most Undecided = omega arith
 
-lot_most : (void : Bool) (v : Verdict) → length (lot_verdict_line void v) ≤ 18
+lot_most : (v : Verdict) → length (lot_verdict_line v) ≤ 18
 unfolding lot_verdict_line
-lot_most void v = pick_most void _ _ 18 (omega arith) (simp length-append (omega (arith, lot_word_most v)))
+lot_most v = simp length-append (omega (arith, lot_word_most v))
 
 -- the places of what is found
+abbrev FewIn : Option Judgement → Type 0
+FewIn None = ⊤
+FewIn (Some j) = (j.h.places ≤ 2) × (j.r.places ≤ 2)
+
 record FewPlaces (s : Findings) : Type 0 where
   mean : s.places ≤ 3
-  h : s.h.places ≤ 2
-  r : s.r.places ≤ 2
+  judgement : FewIn s.judgement
+
+judgement_most : (j : Option Judgement) → FewIn j → length (judgement_text j) ≤ 130
+unfolding judgement_text
+judgement_most None few = omega arith
+judgement_most (Some j) few =
+    simp length-append
+    (omega (arith, value_most (text "H ") j.h (omega arith) few.0, value_most (text "R ") j.r (omega arith) few.1, lot_most j.lot))
 
 places_most : (a : Attribute) → places_of_x a ≤ 2
 places_most Purity = omega arith
@@ -105,9 +114,9 @@ found_few : (a : Attribute) (c : Card) (f : Figures) → FewPlaces (findings_of 
 unfolding findings_of
 found_few a c f = by (is_void a f.count f.sum)
   where
-    by : (b : Bool) → FewPlaces (pick b (found_with a f true no_value no_value Undecided) (found_with a f false (value_h a c f) (value_r a c f) (together (verdict_h a c f) (verdict_r a c f))))
-    by true = record { mean = mean_places_most a f.count; h = omega arith; r = omega arith }
-    by false = record { mean = mean_places_most a f.count; h = omega arith; r = places_most a }
+    by : (b : Bool) → FewPlaces (found_with a f (pick b None (Some (judgement_of a c f))))
+    by true = record { mean = mean_places_most a f.count; judgement = tt }
+    by false = record { mean = mean_places_most a f.count; judgement = (omega arith, places_most a) }
 
 lines_most : (s : Findings) → FewPlaces s → length (findings_text s) ≤ 256
 unfolding findings_text
@@ -117,9 +126,7 @@ lines_most s few =
       arith,
       count_most s.count,
       mean_most s.places s.mean s.side few.mean,
-      value_most (text "H ") s.void s.h (omega arith) few.h,
-      value_most (text "R ") s.void s.r (omega arith) few.r,
-      lot_most s.void s.lot,
+      judgement_most s.judgement few.judgement,
     ))
 
 -- ---- whatever is printed

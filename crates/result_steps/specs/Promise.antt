@@ -1,6 +1,6 @@
 -- What a line does once the lot is opened, as the reader keeps it: what is held stands in the lists of containers and results.
-use Rattle.std.specs.Prelude.{◌≡◌, true, List, ℕ, ◌+◌, eqb, set}
-use Rattle.rules.specs.Choice.{pick, unless}
+use Rattle.std.specs.Prelude.{◌≡◌, true, List, ℕ, ◌+◌, eqb, set, Result, Ok, Err, ⊤}
+use Rattle.rules.specs.Choice.{unless}
 use Rattle.rules.specs.Numbers.{number_of}
 use Rattle.rules.specs.Stages.{may_stand, is_opened}
 use Rattle.rules.specs.Weights.{weighing_of}
@@ -16,8 +16,6 @@ use Rattle.tally.specs.View.{tally_of, view}
 use Rattle.tally.specs.Calls.{Sound, enter_in_number, weigh_in_number}
 use Rattle.head_steps.specs.Promise.{is_result}
 use Rattle.result_steps.specs.declared.Results.{Results}
-use Rattle.result_steps.specs.declared.ResultLine.{ResultLine}
-use Rattle.result_steps.specs.declared.ResultLine.TheVariants as result-line
 
 -- what the lines came to once the lot l is opened with the card c
 abbrev pub opened_state : Lot → Card → ℕ → Results → List ℕ → List ℕ → State
@@ -28,8 +26,9 @@ abbrev pub results_at : Stage → ℕ → Results
 results_at s n = record { stage = s; held = n }
 
 -- what a result comes to that the call on the lists answers with e, where n are held before it
-abbrev pub stored_as : Refusal → ℕ → ResultLine
-stored_as e n = pick (eqb (number_of e) 0) (result-line.Taken (results_at stage.Result (n + 1))) (result-line.Refused e)
+abbrev pub stored_as : Result ⊤ Refusal → ℕ → Result Results Refusal
+stored_as (Ok _) n = Ok (results_at stage.Result (n + 1))
+stored_as (Err e) n = Err e
 
 -- where the results begin: nothing is held
 abbrev pub at_results : Results
@@ -89,6 +88,6 @@ pub record ResultRefused (f : Frame) (l : Lot) (p : Results) (ks vs : List ℕ) 
   pub results : vs' ≡ vs
 
 -- r is what a line with the frame f comes to, with these lists after it
-abbrev pub ResultLineIs : Frame → Lot → Results → List ℕ → List ℕ → ResultLine → List ℕ → List ℕ → Type 0
-ResultLineIs f l p ks vs (result-line.Taken q) ks' vs' = ResultTaken f l p ks vs q ks' vs'
-ResultLineIs f l p ks vs (result-line.Refused e) ks' vs' = ResultRefused f l p ks vs (number_of e) ks' vs'
+abbrev pub ResultLineIs : Frame → Lot → Results → List ℕ → List ℕ → Result Results Refusal → List ℕ → List ℕ → Type 0
+ResultLineIs f l p ks vs (Ok q) ks' vs' = ResultTaken f l p ks vs q ks' vs'
+ResultLineIs f l p ks vs (Err e) ks' vs' = ResultRefused f l p ks vs (number_of e) ks' vs'

@@ -3,7 +3,7 @@
 
 ghost use Rattle.std.specs.Prelude.{◌≡◌, List, ℕ, ◌<◌};
 ghost use Rattle.rules.specs.Limits.{most_held};
-ghost use Rattle.rules.specs.Numbers.{number_of};
+ghost use Rattle.rules.specs.Numbers.{number_in};
 ghost use Rattle.rules.specs.declared.Lot.{Lot};
 ghost use Rattle.rules.specs.declared.Frame.TheVariants as frame;
 ghost use Rattle.result_steps.specs.Promise.{stored_as, ResultLineIs};
@@ -17,22 +17,13 @@ pub struct Results {
     pub held: usize,
 }
 
-// What a line comes to then.
-#[derive(Clone, Copy)]
-pub enum ResultLine {
-    Taken(Results),
-    Refused(Refusal),
-}
-
 // What a result comes to: one more is held, or the refusal.
-fn stored(refusal: Refusal, held: usize) -> ResultLine
-    requires { number_of refusal ≡ 0 → held < most_held }
-    ensures { result ≡ stored_as refusal held }
+fn stored(answer: Result<(), Refusal>, held: usize) -> Result<Results, Refusal>
+    requires { number_in answer ≡ 0 → held < most_held }
+    ensures { result ≡ stored_as answer held }
 {
-    if refusal.number() != 0 {
-        return ResultLine::Refused(refusal);
-    }
-    ResultLine::Taken(Results {
+    answer?;
+    Ok(Results {
         stage: Stage::Result,
         held: held + 1,
     })
@@ -46,13 +37,12 @@ fn enter_step(
     results: &mut [u16; MOST_HELD],
     c: u16,
     x: u16,
-) -> ResultLine
+) -> Result<Results, Refusal>
     ensures { ResultLineIs (frame.Result c x) lot p containers.old results.old result containers.new results.new }
 {
-    let stage = p.stage;
     let held = p.held;
-    if !stages::takes(stage, 5) {
-        return ResultLine::Refused(Refusal::OutOfTurn);
+    if !stages::takes(p.stage, 5) {
+        return Err(Refusal::OutOfTurn);
     }
     stored(tally::enter_in(lot, containers, results, held, c, x), held)
 }
@@ -66,13 +56,12 @@ fn weigh_step(
     c: u16,
     status: u16,
     pans: Pans,
-) -> ResultLine
+) -> Result<Results, Refusal>
     ensures { ResultLineIs (frame.Balance c status pans) lot p containers.old results.old result containers.new results.new }
 {
-    let stage = p.stage;
     let held = p.held;
-    if !stages::takes(stage, 7) {
-        return ResultLine::Refused(Refusal::OutOfTurn);
+    if !stages::takes(p.stage, 7) {
+        return Err(Refusal::OutOfTurn);
     }
     stored(
         tally::weigh_in(lot, containers, results, held, c, status, pans),
@@ -81,20 +70,19 @@ fn weigh_step(
 }
 
 // The end: the number of results.
-fn end_step(p: Results, n: u16) -> ResultLine
+fn end_step(p: Results, n: u16) -> Result<Results, Refusal>
     ensures { (l : Lot) (ks vs : List ℕ) → ResultLineIs (frame.End n) l p ks vs result ks vs }
 {
-    let stage = p.stage;
     let held = p.held;
-    if !stages::takes(stage, 6) {
-        return ResultLine::Refused(Refusal::OutOfTurn);
+    if !stages::takes(p.stage, 6) {
+        return Err(Refusal::OutOfTurn);
     }
     if n as usize != held {
-        return ResultLine::Refused(Refusal::CountWrong);
+        return Err(Refusal::CountWrong);
     }
-    ResultLine::Taken(Results {
+    Ok(Results {
         stage: Stage::End,
-        held: held,
+        held,
     })
 }
 
@@ -105,33 +93,20 @@ pub fn result_step(
     containers: &mut [u16; MOST_HELD],
     results: &mut [u16; MOST_HELD],
     f: Frame,
-) -> ResultLine
+) -> Result<Results, Refusal>
     ensures { ResultLineIs f lot p containers.old results.old result containers.new results.new }
 {
     match f {
-        Frame::Bad => ResultLine::Refused(Refusal::BadLine),
-        Frame::Lot {
-            attribute: _,
-            containers: _,
-        } => ResultLine::Refused(Refusal::OutOfTurn),
-        Frame::Card {
-            factor: _,
-            offset: _,
-            seeds: _,
-        } => ResultLine::Refused(Refusal::OutOfTurn),
-        Frame::Critical { count: _, value: _ } => ResultLine::Refused(Refusal::OutOfTurn),
-        Frame::Range {
-            lowest: _,
-            highest: _,
-            bound: _,
-            tolerated: _,
-        } => ResultLine::Refused(Refusal::OutOfTurn),
-        Frame::Result { container: c, x } => enter_step(p, lot, containers, results, c, x),
-        Frame::End { count: n } => end_step(p, n),
+        Frame::Bad => Err(Refusal::BadLine),
+        Frame::Lot { .. } | Frame::Card { .. } | Frame::Critical { .. } | Frame::Range { .. } => {
+            Err(Refusal::OutOfTurn)
+        }
+        Frame::Result { container, x } => enter_step(p, lot, containers, results, container, x),
+        Frame::End { count } => end_step(p, count),
         Frame::Balance {
-            container: c,
+            container,
             status,
             pans,
-        } => weigh_step(p, lot, containers, results, c, status, pans),
+        } => weigh_step(p, lot, containers, results, container, status, pans),
     }
 }

@@ -1,12 +1,11 @@
 -- What a division comes to where it can be worked out. Assumes nothing.
-use mathlib.Core.Path.{◌≡◌, refl, sym, ap}
-use mathlib.Core.Bool.{Bool, true, false, ◌&&◌, ◌||◌, false≢true}
+use mathlib.Core.Path.{◌≡◌, refl, ap}
+use mathlib.Core.Bool.{true}
 use Prim.Native.Nat.{ℕ, ◌+◌, ◌*◌, ◌/◌, ◌%◌, ◌^◌, ◌≤◌, ◌<◌}
 use native.Mathlib.Nat.{div-add-mod', mod-lt, div-lt_iff_lt-mul, mul-le-mul, mul-le-mul_right, le_of_lt}
-use native.Mathlib.Decide.{dec_le}
 use native.Mathlib.Omega.{arith}
-use lib.Dec.{eqb, leb, ltb}
-use borrow.Author.Tests.{leb-true, ltb-true, lt-ltb, le-ltb, le-leb, eq-eqb, ne_eqb}
+use lib.Dec.{ltb}
+use Rattle.std.proofs.lemmas.Bool.Decides.{nat_tests}
 use Rattle.rules.specs.Rounding.{rounded_of}
 use Rattle.rules.specs.declared.Rounded.{Rounded}
 use Rattle.rules.specs.declared.Side.TheVariants.{Equal, Larger, Smaller}
@@ -14,34 +13,24 @@ use Rattle.rules.proofs.RoundingLaws.{Split, split_of, split_is, split_scaled, u
 use Rattle.rounding.specs.declared.Division.{Division}
 use Rattle.rounding.specs.Dividing.{workable, Workable, Parted, division_of, is_above}
 
-both_true : (p q : Bool) → (p && q) ≡ true → (p ≡ true) × (q ≡ true)
-both_true true q e = (refl, e)
-both_true false q e = absurd (false≢true e)
-
 pub workable_is : (m a b : ℕ) → workable m a b ≡ true → Workable m a b
-workable_is m a b e =
-    let x = both_true (leb m 100) _ e in
-    let y = both_true (leb 1 b) _ x.1 in
-    let z = both_true (ltb b (2 ^ 56)) _ y.1 in
-    record { scale = leb-true m 100 x.0; positive = leb-true 1 b y.0; under = ltb-true b (2 ^ 56) z.0; whole = ltb-true (a / b) (2 ^ 50) z.1 }
+workable_is m a b e = grind (arith, nat_tests)
 
 pub workable_of : (m a b : ℕ) → Workable m a b → workable m a b ≡ true
-workable_of m a b w =
-    rw (le-leb m 100 w.scale, le-leb 1 b w.positive, lt-ltb b (2 ^ 56) w.under) (lt-ltb (a / b) (2 ^ 50) w.whole)
+workable_of m a b w = grind (arith, nat_tests)
 
 -- the code's whole and rest
-pub parts_are : (m a b : ℕ) → 0 < b → (m * (a / b) + m * (a % b) / b ≡ m * a / b) × (m * (a % b) % b ≡ m * a % b)
-parts_are m a b pos = split_is (m * a) b _ _ (split_scaled m a b pos)
+pub whole_is : (m a b : ℕ) → 0 < b → m * (a / b) + m * (a % b) / b ≡ m * a / b
+whole_is m a b pos = (split_is (m * a) b _ _ (split_scaled m a b pos)).0
+
+pub left_is : (m a b : ℕ) → 0 < b → m * (a % b) % b ≡ m * a % b
+left_is m a b pos = (split_is (m * a) b _ _ (split_scaled m a b pos)).1
 
 -- the quotient is above t exactly when t·b is less than m·a
 pub above_is : (m a b t : ℕ) → workable m a b ≡ true → is_above (division_of m a b) t ≡ ltb (t * b) (m * a)
-above_is m a b t e = rw e (by (split_of (m * a) b (workable_is m a b e).positive) (dec_le (t + 1) (m * a / b)) (dec_le t (m * a / b)))
-  where
-    by : Split (m * a) b (m * a / b) (m * a % b) → Dec (t + 1 ≤ m * a / b) → Dec (t ≤ m * a / b)
-        → (ltb t (m * a / b) || (eqb t (m * a / b) && ltb 0 (m * a % b))) ≡ ltb (t * b) (m * a)
-    by s (yes p) q = rw (lt-ltb t (m * a / b) (omega arith)) (sym (whole_over _ _ _ _ s t (omega arith)))
-    by s (no p) (yes q) = rw (le-ltb t (m * a / b) (omega arith), eq-eqb t (m * a / b) (omega arith)) (rest_is _ _ _ _ s t q (omega arith))
-    by s (no p) (no q) = rw (le-ltb t (m * a / b) (omega arith), ne_eqb t (m * a / b) (λ z. omega arith)) (sym (whole_kept _ _ _ _ s t (omega arith)))
+above_is m a b t e =
+    let s = split_of (m * a) b (workable_is m a b e).positive in
+    rw e (grind (arith, nat_tests, whole_over _ _ _ _ s t, whole_kept _ _ _ _ s t, rest_is _ _ _ _ s t))
 
 -- ---- the rounding step on a whole number and a rest
 module _ (w r b : ℕ) (p : Parted w r b) where
@@ -56,6 +45,8 @@ module _ (w r b : ℕ) (p : Parted w r b) where
 
   pub rounded_equal : 2 * r < b → r ≤ 0 → ◌≡◌ {A = Rounded} (record { nearest = w; side = Equal }) (rounded_of (w * b + r) b)
   rounded_equal h k = rw (no_rest_side _ _ _ _ parts h k, down_is _ _ _ _ parts h) refl
+
+pub ruleset rounding = (rounded_up, rounded_down, rounded_equal)
 
 -- ---- the answers of the code
 module _ (m a b w r : ℕ) (e : workable m a b ≡ true) (p : (w ≡ m * a / b) × (r ≡ m * a % b)) where

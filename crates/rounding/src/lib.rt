@@ -20,36 +20,23 @@ pub struct Division {
 fn workable(scale: u64, over: u64, under: u64) -> bool
     ensures { result ≡ Dividing·workable scale over under }
 {
-    if 100 < scale {
-        return false;
-    }
-    if under < 1 {
-        return false;
-    }
-    checks::both(under < 1 << 56, over / under < 1 << 50)
-}
-
-#[derive(Drop)]
-struct Parts {
-    whole: u64,
-    rest: u64,
+    scale <= 100 && 1 <= under && under < 1 << 56 && over / under < 1 << 50
 }
 
 // scale * over / under as a whole number and a rest.
-fn split(scale: u64, over: u64, under: u64) -> Parts
+#[tactic(auto, using(crate::proofs::DividingLaws::whole_is, crate::proofs::DividingLaws::left_is))]
+fn split(scale: u64, over: u64, under: u64) -> (u64, u64)
     requires { Workable scale over under }
-    ensures { (result.whole ≡ scale * over / under) × (result.rest ≡ scale * over % under) }
+    ensures { (result.0 ≡ scale * over / under) × (result.1 ≡ scale * over % under) }
 {
     let whole = over / under;
     let left = scale * (over % under);
-    Parts {
-        whole: scale * whole + left / under,
-        rest: left % under,
-    }
+    (scale * whole + left / under, left % under)
 }
 
 // A whole number and a rest, of which under make one more, rounded. With half of one more the next number is nearest and the exact one
 // smaller; with less the number itself is nearest and the exact one larger, or equal where there is no rest.
+#[tactic(auto, using(crate::proofs::DividingLaws::rounding))]
 fn round(whole: u64, rest: u64, under: u64) -> Rounded
     requires { Parted whole rest under }
     ensures { result ≡ rounded_of (whole * under + rest) under }
@@ -60,29 +47,25 @@ fn round(whole: u64, rest: u64, under: u64) -> Rounded
             side: Side::Smaller,
         };
     }
-    if 0 < rest {
-        return Rounded {
-            nearest: whole,
-            side: Side::Larger,
-        };
-    }
+    let side = if 0 < rest { Side::Larger } else { Side::Equal };
     Rounded {
         nearest: whole,
-        side: Side::Equal,
+        side,
     }
 }
 
 // scale * over / under, where no number on the way can wrap; zeros where one could.
+#[tactic(auto, using(crate::proofs::DividingLaws::parted, crate::proofs::DividingLaws::divided))]
 pub fn divide(scale: u64, over: u64, under: u64) -> Division
     ensures { result ≡ division_of scale over under }
 {
     if workable(scale, over, under) {
-        let p = split(scale, over, under);
-        let rounded = round(p.whole, p.rest, under);
+        let (whole, rest) = split(scale, over, under);
+        let rounded = round(whole, rest, under);
         return Division {
-            whole: p.whole,
-            rest: p.rest,
-            rounded: rounded,
+            whole,
+            rest,
+            rounded,
         };
     }
     Division {
@@ -99,5 +82,5 @@ pub fn divide(scale: u64, over: u64, under: u64) -> Division
 pub fn above(d: Division, t: u64) -> bool
     ensures { result ≡ is_above d t }
 {
-    checks::either(t < d.whole, checks::both(t == d.whole, 0 < d.rest))
+    t < d.whole || t == d.whole && 0 < d.rest
 }

@@ -2,6 +2,7 @@ pub mod Tests
 pub mod ContentLaws
 pub mod CountLaws
 pub mod RangeLaws
+pub mod RefusalLaws
 pub mod FigureLaws
 pub mod CardLaws
 pub mod LedgerLaws

@@ -10,7 +10,7 @@ use rules::Stage;
 fn of_results(kind: u16) -> bool
     ensures { result ≡ is_of_results kind }
 {
-    (kind == 5) | ((kind == 6) | (kind == 7))
+    matches!(kind, 5 | 6 | 7)
 }
 
 // Whether a frame of this kind may stand next.
@@ -20,9 +20,8 @@ pub fn takes(stage: Stage, kind: u16) -> bool
     match stage {
         Stage::Start => kind == 1,
         Stage::Lot => kind == 2,
-        Stage::Card => (kind == 3) | ((kind == 4) | of_results(kind)),
-        Stage::Critical => (kind == 3) | ((kind == 4) | of_results(kind)),
-        Stage::Range => (kind == 4) | of_results(kind),
+        Stage::Card | Stage::Critical => kind == 3 || kind == 4 || of_results(kind),
+        Stage::Range => kind == 4 || of_results(kind),
         Stage::Result => of_results(kind),
         Stage::End => false,
     }
@@ -32,13 +31,5 @@ pub fn takes(stage: Stage, kind: u16) -> bool
 pub fn is_ended(stage: Stage) -> bool
     ensures { result ≡ is_ended stage }
 {
-    match stage {
-        Stage::Start => false,
-        Stage::Lot => false,
-        Stage::Card => false,
-        Stage::Critical => false,
-        Stage::Range => false,
-        Stage::Result => false,
-        Stage::End => true,
-    }
+    stage == Stage::End
 }

@@ -2,12 +2,10 @@
 #![tactic(auto)]
 
 ghost use Rattle.std.specs.Prelude.{◌≡◌};
-ghost use Rattle.rules.specs.Numbers.{tolerance_answer};
-ghost use Rattle.rules.specs.Rounding.{distance};
+ghost use Rattle.rules.specs.Numbers.{test_answer};
 ghost use Rattle.rules.specs.Tolerance.{label_of, pair_of, average_of};
 
-use rules::Tolerance;
-use tolerance_tables::Entry;
+use rules::Refusal;
 
 // The largest average that is always within.
 const ALWAYS_WITHIN: u32 = 2;
@@ -16,49 +14,25 @@ const ALWAYS_WITHIN: u32 = 2;
 fn average_of(first: u32, second: u32) -> u32
     ensures { result ≡ average_of first second }
 {
-    ((first as u64 + second as u64 + 1) / 2) as u32
-}
-
-fn distance_of(first: u32, second: u32) -> u32
-    ensures { result ≡ distance first second }
-{
-    if first < second {
-        second - first
-    } else {
-        first - second
-    }
+    (u64::from(first) + u64::from(second)).div_ceil(2) as u32
 }
 
 // Whether the number of seeds found is within the tolerance of a label, by Table 14G.
-pub fn label(labelled: u32, found: u32) -> Tolerance
-    ensures { tolerance_answer result ≡ label_of labelled found }
+pub fn label(labelled: u32, found: u32) -> Result<bool, Refusal>
+    ensures { test_answer result ≡ label_of labelled found }
 {
-    let entry = tolerance_tables::most_found(labelled);
-    let Entry::AtMost(most) = entry else {
-        return Tolerance::OutsideTable;
-    };
-    if found <= most {
-        Tolerance::Within
-    } else {
-        Tolerance::Out
-    }
+    let most = tolerance_tables::most_found(labelled).ok_or(Refusal::OutsideTable)?;
+    Ok(found <= most)
 }
 
 // Whether the numbers of seeds found by two tests are within the tolerance of each other, by Table 14H.
-pub fn pair(first: u32, second: u32) -> Tolerance
-    ensures { tolerance_answer result ≡ pair_of first second }
+pub fn pair(first: u32, second: u32) -> Result<bool, Refusal>
+    ensures { test_answer result ≡ pair_of first second }
 {
     let average = average_of(first, second);
     if average <= ALWAYS_WITHIN {
-        return Tolerance::Within;
+        return Ok(true);
     }
-    let entry = tolerance_tables::tolerated_difference(average);
-    let Entry::AtMost(most) = entry else {
-        return Tolerance::OutsideTable;
-    };
-    if distance_of(first, second) <= most {
-        Tolerance::Within
-    } else {
-        Tolerance::Out
-    }
+    let most = tolerance_tables::tolerated_difference(average).ok_or(Refusal::OutsideTable)?;
+    Ok(first.abs_diff(second) <= most)
 }

@@ -2,23 +2,13 @@
 // numbers no wider than it needs and is used once in a call.
 #![tactic(auto)]
 
-ghost use Rattle.std.specs.Prelude.{◌≡◌, map, ◌≤◌, get_or};
-ghost use Rattle.rules.specs.Tolerance.{table14_g, table14_h, difference_for};
+ghost use Rattle.std.specs.Prelude.{◌≡◌, ◌≤◌, map, length, ltb, count_by};
+ghost use Rattle.rules.specs.Tolerance.{table14_h};
 ghost use Rattle.tolerance_tables.specs.Entries.{coded, most_found, tolerated_difference};
 
 use crate::tables::{Row, TABLE_14G, TABLE_14H};
 
 mod tables;
-
-// What a table has for a number: the most that it tolerates, or nothing, where the number is outside the table.
-#[derive(Drop)]
-pub enum Entry {
-    AtMost(u32),
-    Outside,
-}
-
-// The largest label of Table 14G.
-const LAST_LABEL: u32 = 100;
 
 // The largest average of Table 14H.
 const LAST_AVERAGE: u32 = 501;
@@ -33,49 +23,31 @@ fn rows_14h() -> [Row; 58]
     TABLE_14H
 }
 
-// The tolerated difference for an average: that of the first row whose top is at least the average. As the tops rise, it stands
-// behind all rows with a top below the average, so that its place is their number.
-fn difference_for(average: u16) -> u16
-    requires { average ≤ 501 }
-    ensures { result ≡ difference_for table14_h average }
+// How many rows have a top below an average: a sum of ones, so that no row makes a branch.
+fn rows_below(rows: &[Row], average: u16) -> u16
+    requires { length rows.now ≤ 57 }
+    ensures { result ≡ count_by (λ row. ltb row.top average) rows.now }
 {
-    let rows = rows_14h();
-    let mut below: u16 = 0;
-    let mut i = 0;
-    while i < LAST_ROW {
-        if rows[i].top < average {
-            below += 1;
-        }
-        i += 1;
-    }
-    rows[below as usize].tolerated
+    rows.iter().map(|row| u16::from(row.top < average)).sum()
 }
 
-// Table 14H: the tolerated difference for an average.
-pub fn tolerated_difference(average: u32) -> Entry
+// Table 14H: the tolerated difference for an average, that of the first row whose top is at least the average. As the tops rise, it
+// stands behind all rows with a top below the average, so that its place is their number.
+pub fn tolerated_difference(average: u32) -> Option<u32>
     ensures { result ≡ tolerated_difference average }
 {
     if LAST_AVERAGE < average {
-        return Entry::Outside;
+        return None;
     }
-    Entry::AtMost(difference_for(average as u16) as u32)
+    let rows = rows_14h();
+    let below = rows_below(&rows[..LAST_ROW], average as u16);
+    Some(u32::from(rows[usize::from(below)].tolerated))
 }
 
-// Column B of Table 14G for a label.
-fn column_b(labelled: u32) -> u8
-    requires { labelled ≤ 100 }
-    ensures { result ≡ get_or table14_g labelled 0 }
-{
-    let column = TABLE_14G;
-    column[labelled as usize]
-}
-
-// Table 14G: the most seeds found for a label.
-pub fn most_found(labelled: u32) -> Entry
+// Table 14G: the most seeds found for a label, column B.
+pub fn most_found(labelled: u32) -> Option<u32>
     ensures { result ≡ most_found labelled }
 {
-    if LAST_LABEL < labelled {
-        return Entry::Outside;
-    }
-    Entry::AtMost(column_b(labelled) as u32)
+    let column = TABLE_14G;
+    Some(u32::from(*column.get(labelled as usize)?))
 }

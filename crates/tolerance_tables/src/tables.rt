@@ -1,7 +1,7 @@
 // The AOSA tables 14G and 14H as 004 prints them.
 
 // A row of Table 14H: the largest average that it serves, and the tolerated difference.
-#[derive(Drop)]
+#[derive(Clone, Copy)]
 pub struct Row {
     pub top: u16,
     pub tolerated: u16,

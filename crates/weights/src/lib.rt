@@ -6,7 +6,7 @@ ghost use Rattle.std.specs.Float.{binary32};
 ghost use Rattle.std.specs.Float.Ieee.{of_bits, to_bits};
 ghost use Rattle.rules.specs.Weights.{tenths_of, ratio_of, share_of, reading_of, weighed_of};
 
-use rules::{HIGHEST_X, Pans, Reading, Share, TENTHS_PER_GRAM, Weight};
+use rules::{HIGHEST_X, Pans, Reading, Refusal, TENTHS_PER_GRAM};
 
 // 2 ^ 23: the fraction has 23 bits, and the exponent's field stands before them.
 const FRACTIONS: u32 = 8388608;
@@ -19,99 +19,88 @@ const HEAVIEST: u32 = 0x447A_0000;
 const LIGHTEST: u32 = 112 * FRACTIONS;
 
 // The float that 32 bits mean. All patterns of what is not a number mean the same.
+#[tactic(auto, using(crate::proofs::Bits::same_nan, crate::proofs::Bits::not_nan))]
 pub fn float(bits: u32) -> f32
     ensures { result ≡ of_bits binary32 bits }
 {
     if 0x7F80_0000 < bits % 0x8000_0000 {
-        return 0.0 / 0.0;
+        return f32::NAN;
     }
     f32::from_bits(bits)
 }
 
 // The number is (2 ^ 23 + fraction) / 2 ^ (150 - exponent) g.
-fn tenths_of_bits(bits: u32) -> Weight
+#[tactic(auto, using(crate::proofs::WeighingLaws::of_weights))]
+fn tenths_of_bits(bits: u32) -> Result<u32, Refusal>
     ensures { result ≡ tenths_of bits }
 {
     if HEAVIEST < bits {
-        return Weight::Bad;
+        return Err(Refusal::BadWeight);
     }
     if bits < LIGHTEST {
-        return Weight::Tenths(0);
+        return Ok(0);
     }
     let exponent = bits / FRACTIONS;
     let significand = FRACTIONS + bits % FRACTIONS;
-    let d = rounding::divide(
-        1,
-        TENTHS_PER_GRAM * significand as u64,
-        1 << (150 - exponent),
-    );
-    let tenths = d.rounded;
-    Weight::Tenths(tenths.nearest as u32)
+    let over = TENTHS_PER_GRAM * u64::from(significand);
+    let d = rounding::divide(1, over, 1 << (150 - exponent));
+    Ok(d.rounded.nearest as u32)
 }
 
 // A weight in tenths of a milligram, half up.
-pub fn tenths(w: f32) -> Weight
+#[tactic(auto, using(crate::proofs::WeighingLaws::no_weight))]
+pub fn tenths(w: f32) -> Result<u32, Refusal>
     ensures { result ≡ tenths_of (to_bits binary32 w) }
 {
-    if w != w {
-        return Weight::Bad;
+    if w.is_nan() {
+        return Err(Refusal::BadWeight);
     }
-    tenths_of_bits(f32::to_bits(w))
+    tenths_of_bits(w.to_bits())
 }
 
 // The share of c in c + r, in hundredths of a percent, half up.
-fn ratio(c: u32, r: u32) -> Share
+#[tactic(auto, using(crate::proofs::WeighingLaws::of_shares))]
+fn ratio(c: u32, r: u32) -> Result<u16, Refusal>
     ensures { result ≡ ratio_of c r }
 {
-    let both = c as u64 + r as u64;
+    let both = u64::from(c) + u64::from(r);
     if both == 0 {
-        return Share::BadWeight;
+        return Err(Refusal::BadWeight);
     }
-    let d = rounding::divide(1, HIGHEST_X as u64 * c as u64, both);
-    let hundredths = d.rounded;
-    Share::Hundredths(hundredths.nearest as u16)
+    let d = rounding::divide(1, u64::from(HIGHEST_X) * u64::from(c), both);
+    Ok(d.rounded.nearest as u16)
 }
 
 // X of two steady weights.
-fn share(p: Pans) -> Share
+#[tactic(auto, unfolding(rules::specs::Weights::share_of))]
+fn share(p: Pans) -> Result<u16, Refusal>
     ensures { result ≡ share_of (to_bits binary32 p.component) (to_bits binary32 p.remainder) }
 {
-    match tenths(p.component) {
-        Weight::Tenths(c) => match tenths(p.remainder) {
-            Weight::Tenths(r) => ratio(c, r),
-            Weight::Bad => Share::BadWeight,
-        },
-        Weight::Bad => Share::BadWeight,
-    }
+    ratio(tenths(p.component)?, tenths(p.remainder)?)
 }
 
 // The reading of one pan, from the frame's status: 0 steady, 1 unsteady, any other an overload.
+#[tactic(auto, unfolding(rules::specs::Weights::reading_of))]
 fn reading(status: u32, w: f32) -> Reading
     ensures { result ≡ reading_of status w }
 {
-    if status == 0 {
-        return Reading::Steady(w);
+    match status {
+        0 => Reading::Steady(w),
+        1 => Reading::Unsteady(w),
+        _ => Reading::Overload,
     }
-    if status == 1 {
-        return Reading::Unsteady(w);
-    }
-    Reading::Overload
 }
 
 // X of a status and both pans. The weights are looked at when both readings are steady.
-pub fn weighed(status: u32, p: Pans) -> Share
+#[tactic(auto, unfolding(rules::specs::Weights::reading_of, rules::specs::Weights::weighed_of))]
+pub fn weighed(status: u32, p: Pans) -> Result<u16, Refusal>
     ensures { result ≡ weighed_of status (to_bits binary32 p.component) (to_bits binary32 p.remainder) }
 {
-    match reading(status, p.component) {
-        Reading::Steady(component) => match reading(status, p.remainder) {
-            Reading::Steady(remainder) => share(Pans {
-                component,
-                remainder,
-            }),
-            Reading::Unsteady(_) => Share::NotSteady,
-            Reading::Overload => Share::NotSteady,
-        },
-        Reading::Unsteady(_) => Share::NotSteady,
-        Reading::Overload => Share::NotSteady,
+    match (reading(status, p.component), reading(status, p.remainder)) {
+        (Reading::Steady(component), Reading::Steady(remainder)) => share(Pans {
+            component,
+            remainder,
+        }),
+        _ => Err(Refusal::NotSteady),
     }
 }

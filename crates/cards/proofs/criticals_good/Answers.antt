@@ -1,13 +1,16 @@
 -- `cards::criticals_good` meets its contract.
+use mathlib.Core.Path.{◌∙◌}
+use mathlib.Core.Bool.{true}
+use native.Mathlib.Omega.{arith}
 use borrow.Author.Rules.{rules}
-use Rattle.rules.specs.Cards.{criticals_good}
-use mathlib.Core.Path.{refl}
-use Rattle.cards.proofs.Walks.{criticals_more}
+use Rattle.std.proofs.lemmas.Iterator.{YieldsList-from_slice}
+use Rattle.std.proofs.lemmas.Iterator.Consumers.{YieldsList-at, YieldsList-from_enumerate, fold_from_yields_List}
+use Rattle.cards.proofs.Folded.{and_critical, all_criticals}
 use Rattle.cards.proofs.criticals_good.Goals as goal
 
-pub loop-i-init : goal.loop-i-init
-unfolding criticals_good
-loop-i-init c = (search rules, refl)
-
-pub loop-i-preserved : goal.loop-i-preserved
-loop-i-preserved c = (search rules, criticals_more _ _ _ _ c.loop-i.invariant.1 c.critical_good-ok.ensures)
+pub returns : goal.returns
+returns c =
+    fold_from_yields_List _ and_critical true c.fold.result c.fold.ensures.ran
+    (YieldsList-from_enumerate (YieldsList-at c.enumerate.ensures.source (YieldsList-from_slice c.args.c.now.critical cc)) cc)
+    (λ ok p r q k. search rules)
+    ∙ all_criticals c.args.c.now.critical (omega arith)

@@ -4,4 +4,4 @@ use Rattle.list_lines.proofs.line_at.Goals as goal
 
 pub returns : goal.returns
 returns c =
-    read_line _ _ _ _ _ c.least-start.ensures c.first_from-end.ensures.0 c.first_from-end.ensures.1 _ c.line_of.ensures
+    read_line _ _ _ _ _ _ _ c.min-start.ensures c.place.ensures c.unwrap_or-length.ensures c.line_of.ensures

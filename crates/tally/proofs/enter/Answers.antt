@@ -3,4 +3,4 @@ use Rattle.tally.proofs.Steps.{store_answers}
 use Rattle.tally.proofs.enter.Goals as goal
 
 pub returns : goal.returns
-returns c = store_answers _ _ _ _ _ _ _ _ c.enter_in-refusal.ensures _ c.one_more.ensures
+returns c = store_answers _ _ _ _ _ _ _ _ c.enter_in-answer.ensures _ c.one_more.ensures

@@ -1,38 +1,33 @@
 -- `tally::enter_in` meets its promise: one place more, or the very lists. Assumes nothing.
-use mathlib.Core.Path.{sym, ◌∙◌}
-use mathlib.Core.List.{[]}
+use mathlib.Core.Path.{refl}
 use Prim.Native.Nat.{◌<◌}
 use native.Mathlib.Omega.{arith}
+use Rattle.std.specs.Prelude.{[], Ok, Err}
 use Rattle.rules.specs.Limits.{most_held}
+use Rattle.rules.proofs.RefusalLaws.{never_zero, passed_on}
 use Rattle.tally.proofs.Steps.{enter_room, enters, enters_not}
 use Rattle.tally.proofs.enter_in.Goals as goal
-use Rattle.tally.proofs.enter_in.Goals.{Then-number-eq0}
+use Rattle.tally.proofs.enter_in.Goals.{In_ok-check_enter}
 
 -- there is room for one more
-room : (c : Then-number-eq0) → c.args.held < most_held
-room c =
-    let a = c.args in
-    enter_room a.lot a.containers.now [] a.held a.container a.x c.enter_refusal-refusal.result c.enter_refusal-refusal.ensures
-    (sym c.number.ensures ∙ c.if-number-eq0.true)
+room : (c : In_ok-check_enter) → c.args.held < most_held
+room c = let a = c.args in enter_room a.lot a.containers.now [] a.held a.container a.x (Ok tt) c.in_ok-check_enter.ensures refl
+
+pub returns-in_err-check_enter : goal.returns-in_err-check_enter
+returns-in_err-check_enter c =
+    rw (passed_on c.from_residual.ensures.1) (enters_not _ _ _ _ _ _ (Err _) c.in_err-check_enter.ensures (never_zero _))
 
 pub offset_bounds-containers-held : goal.offset_bounds-containers-held
-offset_bounds-containers-held c =
-    omega (arith, room c)
+offset_bounds-containers-held c = omega (arith, room c)
 
 pub bounds-containers-held : goal.bounds-containers-held
-bounds-containers-held c =
-    omega (arith, room (goal.at.bounds-containers-held c).Then-number-eq0)
+bounds-containers-held c = omega (arith, room (goal.at.bounds-containers-held c).In_ok-check_enter)
 
 pub offset_bounds-results-held : goal.offset_bounds-results-held
-offset_bounds-results-held c =
-    omega (arith, room (goal.at.offset_bounds-results-held c).Then-number-eq0)
+offset_bounds-results-held c = omega (arith, room (goal.at.offset_bounds-results-held c).In_ok-check_enter)
 
 pub bounds-results-held : goal.bounds-results-held
-bounds-results-held c =
-    omega (arith, room (goal.at.bounds-results-held c).Then-number-eq0)
+bounds-results-held c = omega (arith, room (goal.at.bounds-results-held c).In_ok-check_enter)
 
-pub returns-then-number-eq0 : goal.returns-then-number-eq0
-returns-then-number-eq0 c = enters _ _ _ _ _ _ _ c.enter_refusal-refusal.ensures (sym c.number.ensures ∙ c.if-number-eq0.true)
-
-pub returns-else-number-eq0 : goal.returns-else-number-eq0
-returns-else-number-eq0 c = enters_not _ _ _ _ _ _ _ c.enter_refusal-refusal.ensures (λ z. c.if-number-eq0.false (c.number.ensures ∙ z))
+pub returns : goal.returns
+returns c = enters _ _ _ _ _ _ (Ok tt) c.in_ok-check_enter.ensures refl
