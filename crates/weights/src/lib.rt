@@ -19,16 +19,18 @@ const HEAVIEST: u32 = 0x447A_0000;
 const LIGHTEST: u32 = 112 * FRACTIONS;
 
 // The float that 32 bits mean. All patterns of what is not a number mean the same.
+#[tactic(auto, using(crate::proofs::Bits::same_nan, crate::proofs::Bits::not_nan))]
 pub fn float(bits: u32) -> f32
     ensures { result ≡ of_bits binary32 bits }
 {
     if 0x7F80_0000 < bits % 0x8000_0000 {
-        return 0.0 / 0.0;
+        return f32::NAN;
     }
     f32::from_bits(bits)
 }
 
 // The number is (2 ^ 23 + fraction) / 2 ^ (150 - exponent) g.
+#[tactic(auto, using(crate::proofs::WeighingLaws::of_weights))]
 fn tenths_of_bits(bits: u32) -> Result<u32, Refusal>
     ensures { result ≡ tenths_of bits }
 {
@@ -40,36 +42,33 @@ fn tenths_of_bits(bits: u32) -> Result<u32, Refusal>
     }
     let exponent = bits / FRACTIONS;
     let significand = FRACTIONS + bits % FRACTIONS;
-    let d = rounding::divide(
-        1,
-        TENTHS_PER_GRAM * significand as u64,
-        1 << (150 - exponent),
-    );
-    let tenths = d.rounded;
-    Ok(tenths.nearest as u32)
+    let over = TENTHS_PER_GRAM * u64::from(significand);
+    let d = rounding::divide(1, over, 1 << (150 - exponent));
+    Ok(d.rounded.nearest as u32)
 }
 
 // A weight in tenths of a milligram, half up.
+#[tactic(auto, using(crate::proofs::WeighingLaws::no_weight))]
 pub fn tenths(w: f32) -> Result<u32, Refusal>
     ensures { result ≡ tenths_of (to_bits binary32 w) }
 {
-    if w != w {
+    if w.is_nan() {
         return Err(Refusal::BadWeight);
     }
-    tenths_of_bits(f32::to_bits(w))
+    tenths_of_bits(w.to_bits())
 }
 
 // The share of c in c + r, in hundredths of a percent, half up.
+#[tactic(auto, using(crate::proofs::WeighingLaws::of_shares))]
 fn ratio(c: u32, r: u32) -> Result<u16, Refusal>
     ensures { result ≡ ratio_of c r }
 {
-    let both = c as u64 + r as u64;
+    let both = u64::from(c) + u64::from(r);
     if both == 0 {
         return Err(Refusal::BadWeight);
     }
-    let d = rounding::divide(1, HIGHEST_X as u64 * c as u64, both);
-    let hundredths = d.rounded;
-    Ok(hundredths.nearest as u16)
+    let d = rounding::divide(1, u64::from(HIGHEST_X) * u64::from(c), both);
+    Ok(d.rounded.nearest as u16)
 }
 
 // X of two steady weights.
@@ -81,16 +80,15 @@ fn share(p: Pans) -> Result<u16, Refusal>
 }
 
 // The reading of one pan, from the frame's status: 0 steady, 1 unsteady, any other an overload.
+#[tactic(auto, unfolding(rules::specs::Weights::reading_of))]
 fn reading(status: u32, w: f32) -> Reading
     ensures { result ≡ reading_of status w }
 {
-    if status == 0 {
-        return Reading::Steady(w);
+    match status {
+        0 => Reading::Steady(w),
+        1 => Reading::Unsteady(w),
+        _ => Reading::Overload,
     }
-    if status == 1 {
-        return Reading::Unsteady(w);
-    }
-    Reading::Overload
 }
 
 // X of a status and both pans. The weights are looked at when both readings are steady.
@@ -98,14 +96,11 @@ fn reading(status: u32, w: f32) -> Reading
 pub fn weighed(status: u32, p: Pans) -> Result<u16, Refusal>
     ensures { result ≡ weighed_of status (to_bits binary32 p.component) (to_bits binary32 p.remainder) }
 {
-    match reading(status, p.component) {
-        Reading::Steady(component) => match reading(status, p.remainder) {
-            Reading::Steady(remainder) => share(Pans {
-                component,
-                remainder,
-            }),
-            Reading::Unsteady(_) | Reading::Overload => Err(Refusal::NotSteady),
-        },
-        Reading::Unsteady(_) | Reading::Overload => Err(Refusal::NotSteady),
+    match (reading(status, p.component), reading(status, p.remainder)) {
+        (Reading::Steady(component), Reading::Steady(remainder)) => share(Pans {
+            component,
+            remainder,
+        }),
+        _ => Err(Refusal::NotSteady),
     }
 }
