@@ -82,7 +82,7 @@ fn answer(
 fn read_file(rt: &(impl Env + Files), place: usize, into: &mut [u8]) -> usize
     ensures { IsPrefixLen result into.new }
 {
-    let mut name = program_words::word_buffer();
+    let mut name = buffers::zeroed::<WORD>();
     let n = buffers::word(rt, place, &mut name);
     buffers::read_file(rt, &name[..n], into)
 }
