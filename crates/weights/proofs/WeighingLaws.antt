@@ -37,24 +37,24 @@ share_nearest : (c r : ℕ) → c < 2 ^ 32 → r < 2 ^ 32 → 1 ≤ c + r → (d
 share_nearest c r h k p = divided (10000 * c) (c + r) p (omega arith) (lt_of_le_of_lt (div-le_self (10000 * c) (c + r)) (omega arith))
 
 -- ---- a weight, by its bits
-too_light : (b : ℕ) → b < 939524096 → tenths_of b ≡ Ok 0
+pub too_light : (b : ℕ) → b < 939524096 → tenths_of b ≡ Ok 0
 too_light b h = good_weight b (omega arith) ∙ ap Ok (tenths_none b h)
 
-weight_divided : (b : ℕ) → 939524096 ≤ b → b ≤ 1148846080
+pub weight_divided : (b : ℕ) → 939524096 ≤ b → b ≤ 1148846080
     → tenths_of b ≡ Ok (division_of 1 (10000 * (8388608 + b % 8388608)) (1 * 2 ^ (150 - b / 8388608) % 2 ^ 64)).rounded.nearest
 weight_divided b h g = good_weight b g ∙ ap Ok (sym (weight_nearest b h g))
 
-weight_within : (b : ℕ) → 939524096 ≤ b → b ≤ 1148846080
+pub weight_within : (b : ℕ) → 939524096 ≤ b → b ≤ 1148846080
     → (division_of 1 (10000 * (8388608 + b % 8388608)) (1 * 2 ^ (150 - b / 8388608) % 2 ^ 64)).rounded.nearest ≤ 10000000
 weight_within b h g = omega (arith, weight_nearest b h g, tenths_most b g)
 
 pub ruleset of_weights = (bad_weight_lem, too_light, weight_divided, weight_within)
 
 -- ---- a share, by two weights
-share_divided : (c r : ℕ) → c < 2 ^ 32 → r < 2 ^ 32 → 1 ≤ c + r → ratio_of c r ≡ Ok (division_of 1 (10000 * c) (c + r)).rounded.nearest
+pub share_divided : (c r : ℕ) → c < 2 ^ 32 → r < 2 ^ 32 → 1 ≤ c + r → ratio_of c r ≡ Ok (division_of 1 (10000 * c) (c + r)).rounded.nearest
 share_divided c r h k p = ratio_some c r p ∙ ap Ok (sym (share_nearest c r h k p))
 
-share_within : (c r : ℕ) → c < 2 ^ 32 → r < 2 ^ 32 → 1 ≤ c + r → (division_of 1 (10000 * c) (c + r)).rounded.nearest ≤ 10000
+pub share_within : (c r : ℕ) → c < 2 ^ 32 → r < 2 ^ 32 → 1 ≤ c + r → (division_of 1 (10000 * c) (c + r)).rounded.nearest ≤ 10000
 share_within c r h k p = omega (arith, share_nearest c r h k p, ratio_most c r p)
 
 pub ruleset of_shares = (ratio_none, share_divided, share_within)
