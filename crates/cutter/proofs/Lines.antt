@@ -15,7 +15,7 @@ use Rattle.rules.specs.Lines.{Line, ended, unended, left, cut_from, lines_of}
 use Rattle.rules.proofs.Tests.{and_both, and_left, and_right}
 use Rattle.rules.proofs.LineLaws.{no_lines}
 use Rattle.cutter.specs.Runs.{run_of, run_at, is_of_line, line_at, digits_at}
-use Rattle.cutter.proofs.Runs.{run_is, run_only, run_le, run_length}
+use Rattle.cutter.proofs.Runs.{run_le, run_passes, run_fails, run_only, run_length}
 
 -- ---- the digits of a line, and the line
 pub digit_at : (l : List ℕ) (i : ℕ) → all_digits l ≡ true → i < length l → is_digit (get_or l i 0) ≡ true
@@ -42,22 +42,17 @@ run_digits (x ∷ xs) = by (is_digit x) refl (run_digits xs)
 -- the digits are the line where the end byte or the end of the bytes follows them
 line_of_digits : (l : List ℕ) → (run_of is_digit l < length l → get_or l (run_of is_digit l) 0 ≡ 10) → run_of is_of_line l ≡ run_of is_digit l
 line_of_digits l f =
-    let r = run_is is_digit l in
-    run_only is_of_line l (run_of is_digit l)
-    (record { within = r.within; passes = λ i h. digit_of_line (get_or l i 0) (r.passes i h); fails = λ h. ap is_of_line (f h) })
+    run_only is_of_line l (run_of is_digit l) (run_le is_digit l)
+    (λ i h. digit_of_line (get_or l i 0) (run_passes is_digit l i h)) (λ h. ap is_of_line (f h))
 
 -- and where the line has nothing but digits
 digits_of_line : (l : List ℕ) → all_digits (take (run_of is_of_line l) l) ≡ true → run_of is_digit l ≡ run_of is_of_line l
 digits_of_line l e =
     let n = run_of is_of_line l in
-    let r = run_is is_of_line l in
-    let long = length-take-le n l r.within in
-    run_only is_digit l n
-    (record {
-      within = r.within;
-      passes = λ i h. rw (get_or-take n l i 0 h) at (digit_at (take n l) i e (omega arith));
-      fails = λ h. ap is_digit (end_byte (get_or l n 0) (r.fails h));
-    })
+    let long = length-take-le n l (run_le is_of_line l) in
+    run_only is_digit l n (run_le is_of_line l)
+    (λ i h. rw (get_or-take n l i 0 h) at (digit_at (take n l) i e (omega arith)))
+    (λ h. ap is_digit (end_byte (get_or l n 0) (run_fails is_of_line l h)))
 
 -- ---- at a place of the sheet: the digits d of the line that starts at a
 module _ (s : List ℕ) (a : ℕ) (d : List ℕ) (is : d ≡ digits_at s a) where
@@ -91,7 +86,7 @@ module _ (s : List ℕ) (a : ℕ) (d : List ℕ) (is : d ≡ digits_at s a) wher
   pub line_ends : all_digits (line_at s a) ≡ true → a + length d < length s → get_or s (a + length d) 0 ≡ 10
   line_ends e h =
       let q = all_of_line e in
-      let ends = (run_is is_of_line (drop a s)).fails (omega (arith, count, q, length-drop a s)) in
+      let ends = run_fails is_of_line (drop a s) (omega (arith, count, q, length-drop a s)) in
       sym behind ∙ (ap (λ (n : ℕ). get_or (drop a s) n 0) q ∙ end_byte _ ends)
 
 -- ---- the lines, one after the other

@@ -1,5 +1,5 @@
 -- Runs of bytes: a line, up to its end byte, and the digits at its front.
-use Rattle.std.specs.Prelude.{Bool, true, ◌&&◌, not, List, [], ◌∷◌, ℕ, zero, suc, ◌+◌, eqb, get_or, take, drop}
+use Rattle.std.specs.Prelude.{Bool, not, List, [], ◌∷◌, ℕ, suc, eqb, take, drop}
 use Rattle.rules.specs.Choice.{pick}
 use Rattle.rules.specs.Fields.{is_digit}
 
@@ -7,11 +7,6 @@ use Rattle.rules.specs.Fields.{is_digit}
 unfoldable pub run_of : (ℕ → Bool) → List ℕ → ℕ
 run_of p [] = 0
 run_of p (x ∷ xs) = pick (p x) (suc (run_of p xs)) 0
-
--- whether the n bytes from a on pass the test
-unfoldable pub all_pass : (ℕ → Bool) → List ℕ → ℕ → ℕ → Bool
-all_pass p s a zero = true
-all_pass p s a (suc n) = all_pass p s a n && p (get_or s (a + n) 0)
 
 -- the run that starts at a
 unfoldable pub run_at : (ℕ → Bool) → List ℕ → ℕ → List ℕ

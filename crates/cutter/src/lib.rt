@@ -1,10 +1,10 @@
 // The digits at the front of a sheet's line, as a part of the sheet.
 #![tactic(auto)]
 
-ghost use Rattle.std.specs.Prelude.{◌≡◌, ◌+◌, ◌≤◌, length, drop};
+ghost use Rattle.std.specs.Prelude.{◌≡◌, ◌≤◌};
+ghost use Rattle.std.specs.List.{list_all, prefix_len};
 ghost use Rattle.rules.specs.Limits.{most_digits};
 ghost use Rattle.rules.specs.Fields.{is_digit};
-ghost use Rattle.cutter.specs.Runs.{run_of, all_pass};
 ghost use Rattle.cutter.specs.Cutting.{CutAt};
 
 use rules::{BALANCE_DIGITS, CARD_DIGITS, RANGE_DIGITS, RESULT_DIGITS};
@@ -12,36 +12,21 @@ use rules::{BALANCE_DIGITS, CARD_DIGITS, RANGE_DIGITS, RESULT_DIGITS};
 fn is_digit(c: u8) -> bool
     ensures { result ≡ is_digit c }
 {
-    ((b'0' <= c) & (c <= b'9')) | ((b'A' <= c) & (c <= b'F'))
+    matches!(c, b'0'..=b'9' | b'A'..=b'F')
 }
 
-// Whether the eight bytes from `at` on are digits. With no branch: the compiler looks at all of them together.
-fn eight_digits(sheet: &[u8], at: usize) -> bool
-    requires { at + 8 ≤ length sheet.now }
-    ensures { result ≡ all_pass is_digit sheet.now at 8 }
+// Whether all these bytes are digits. With no branch: the compiler looks at eight together.
+fn all_digits(bytes: &[u8]) -> bool
+    ensures { result ≡ list_all is_digit bytes.now }
 {
-    let mut ok = true;
-    let mut i = 0;
-    while i < 8 {
-        ok = ok & is_digit(sheet[at + i]);
-        i += 1;
-    }
-    ok
+    bytes.iter().fold(true, |ok, &c| ok & is_digit(c))
 }
 
-// Where the digits that start at `at` end: at the first byte that is none, or at the sheet's end.
-fn digits_end(sheet: &[u8], at: usize) -> usize
-    requires { at ≤ length sheet.now }
-    ensures { (result ≡ at + run_of is_digit (drop at sheet.now)) × (result ≤ length sheet.now) }
+// Where the digits at the front end: at the first byte that is none, or at the end of `rest`.
+fn digits_end(rest: &[u8]) -> usize
+    ensures { result ≡ prefix_len is_digit rest.now }
 {
-    let mut i = at;
-    while i < sheet.len() {
-        if !is_digit(sheet[i]) {
-            return i;
-        }
-        i += 1;
-    }
-    i
+    rest.iter().take_while(|&&c| is_digit(c)).count()
 }
 
 // How many digits a good line has whose second byte is this one, if they are more than eight; else eight.
@@ -60,32 +45,27 @@ fn likely_digits(kind: u8) -> usize
 // The place of `digits_end`, found in few steps where a good line of eight digits or more starts: its first eight bytes and its last
 // eight are digits, some of them perhaps in both, in a line of more than sixteen the second eight too, and the end byte follows. The
 // first eight have a branch of their own, before the kind is read: the compiler makes better code of that than of one test.
-fn line_end(sheet: &[u8], at: usize) -> usize
-    requires { at ≤ length sheet.now }
-    ensures { (result ≡ at + run_of is_digit (drop at sheet.now)) × (result ≤ length sheet.now) }
+fn line_end(rest: &[u8]) -> usize
+    ensures { result ≡ prefix_len is_digit rest.now }
 {
-    if BALANCE_DIGITS < sheet.len() - at {
-        if eight_digits(sheet, at) {
-            let end = at + likely_digits(sheet[at + 1]);
-            if eight_digits(sheet, end - 8) & (sheet[end] == b'\n') {
-                if end <= at + 16 {
-                    return end;
-                }
-                if eight_digits(sheet, at + 8) {
-                    return end;
-                }
-            }
+    if BALANCE_DIGITS < rest.len() && all_digits(&rest[..8]) {
+        let end = likely_digits(rest[1]);
+        if all_digits(&rest[end - 8..end]) & (rest[end] == b'\n')
+            && (end <= 16 || all_digits(&rest[8..16]))
+        {
+            return end;
         }
     }
-    digits_end(sheet, at)
+    digits_end(rest)
 }
 
 // The digits of the line that starts at `at`: a part of the sheet. Whether the line's end byte follows them, the caller sees by their
 // length.
+#[tactic(auto, using(crate::proofs::Runs::run_fits))]
 pub fn cut(sheet: &[u8], at: usize) -> &[u8]
     ensures { CutAt sheet.entry at result }
 {
-    let start = checks::least(at, sheet.len());
-    let end = line_end(sheet, start);
+    let start = at.min(sheet.len());
+    let end = start + line_end(&sheet[start..]);
     &sheet[start..end]
 }

@@ -6,6 +6,7 @@ use mathlib.Core.Path.{◌≡◌, refl, ap, ◌∙◌}
 use mathlib.Core.Bool.{Bool, true, ◌&&◌}
 use mathlib.Core.List.{List}
 use lib.Dec.{leb}
+use Rattle.std.specs.Prelude.{Some, None}
 use lib.ListN.{get_or}
 use borrow.Author.Tests.{leb-true, le-leb}
 use Rattle.rules.specs.Choice.{pick}
@@ -19,7 +20,6 @@ use Rattle.rules.specs.declared.Card.{Card}
 use Rattle.rules.specs.declared.Figures.{Figures}
 use Rattle.rules.proofs.Tests.{and_left, and_right}
 use Rattle.rules.proofs.SpreadLaws.{spread_of}
-use Rattle.findings.specs.declared.Found.TheVariants.{Reportable, NotReportable}
 use Rattle.findings.specs.Reportable.{in_order, with_result, within_limits, reportable, found_of, most_served, IsReportable}
 
 pub count_in_order : (vs : List ℕ) (n : ℕ) → total one n (in_order vs) ≡ n
@@ -73,9 +73,9 @@ module _ (vs : List ℕ) (n : ℕ) (f : Figures) (e : f ≡ figures_of n (in_ord
         }
 
     pub found_is : (a : Attribute) (b : Bool) → within_limits c.head c.rows f ≡ b
-        → pick b (Reportable (findings_of a c f)) NotReportable ≡ found_of a c (figures_of n (in_order vs))
+        → pick b (Some (findings_of a c f)) None ≡ found_of a c (figures_of n (in_order vs))
     found_is a b w =
-        let here : pick b (Reportable (findings_of a c f)) NotReportable ≡ found_of a c f = rw (le-leb f.count most_held (omega (arith, count_is)), w) refl in
+        let here : pick b (Some (findings_of a c f)) None ≡ found_of a c f = rw (le-leb f.count most_held (omega (arith, count_is)), w) refl in
         here ∙ ap (found_of a c) e
 
 -- ---- for the caller

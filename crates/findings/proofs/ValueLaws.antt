@@ -14,8 +14,7 @@ use Rattle.rules.specs.declared.Attribute.TheVariants.{Purity, Germination, Coun
 use Rattle.rules.specs.declared.Head.{Head}
 use Rattle.rules.specs.declared.Figures.{Figures}
 use Rattle.rules.specs.declared.Fraction.{Fraction}
-use Rattle.rules.specs.declared.Limit.{Limit}
-use Rattle.rules.specs.declared.Limit.TheVariants.{Absent, At}
+use Rattle.std.specs.Prelude.{Option, None, Some}
 use Rattle.rules.proofs.RoundingLaws.{low}
 use Rattle.rules.proofs.SpreadLaws.{highest_most, ratio_le, under_positive}
 use Rattle.rounding.specs.Dividing.{Workable, workable, division_of, is_above}
@@ -101,9 +100,12 @@ mean_most a f m h = by (dec_le (mean_of a f).nearest (100 * highest_x))
         (omega
         (arith, low (mean_scale a f.count * f.sum) f.count (omega (arith, m.enough)), mul-le-mul_right f.count k, mul-le-mul h m.spread.sum_high))
 
-verdict_same : (p q : ℕ → Bool) (l : Limit) → ((v : ℕ) → p v ≡ q v) → verdict_on p l ≡ verdict_on q l
-verdict_same p q Absent h = refl
-verdict_same p q (At v) h = ap verdict_by (h v)
+-- what the check needs to know of the mean
+pub ruleset mean_laws = (mean_workable, mean_most)
+
+verdict_same : (p q : ℕ → Bool) (l : Option ℕ) → ((v : ℕ) → p v ≡ q v) → verdict_on p l ≡ verdict_on q l
+verdict_same p q None h = refl
+verdict_same p q (Some v) h = ap verdict_by (h v)
 
 module _ (q : Fraction) (d : Division) (offset : ℕ) (w : Workable 100 q.over q.under) (k : d ≡ division_of 100 q.over q.under) where
   workable_is : workable 100 q.over q.under ≡ true
@@ -113,6 +115,6 @@ module _ (q : Fraction) (d : Division) (offset : ℕ) (w : Workable 100 q.over q
   unfolding reported_h
   h_value = rw (k, workable_is) refl
 
-  pub h_verdict : (l : Limit) → verdict_on (λ v. is_above d (v + 10 * offset)) l ≡ verdict_on (λ v. exceeds q offset v) l
+  pub h_verdict : (l : Option ℕ) → verdict_on (λ v. is_above d (v + 10 * offset)) l ≡ verdict_on (λ v. exceeds q offset v) l
   unfolding exceeds
   h_verdict l = verdict_same _ _ l (λ v. rw k (above_is 100 q.over q.under (v + 10 * offset) workable_is))

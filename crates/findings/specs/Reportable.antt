@@ -1,5 +1,5 @@
 -- The figures of results in the order in which they are stored, and when they are reported.
-use Rattle.std.specs.Prelude.{ℕ, zero, suc, ◌+◌, ◌*◌, ◌≤◌, min, max, Bool, ◌&&◌, List, leb, get_or}
+use Rattle.std.specs.Prelude.{ℕ, zero, suc, ◌+◌, ◌*◌, ◌≤◌, min, max, Bool, ◌&&◌, List, leb, get_or, Option, Some, None}
 use Rattle.rules.specs.Choice.{pick}
 use Rattle.rules.specs.Limits.{least_reported, most_held, most_rows, highest_x, least_factor, most_factor, most_seeds}
 use Rattle.rules.specs.Contents.{Contents, free, holds}
@@ -9,8 +9,7 @@ use Rattle.rules.specs.declared.Attribute.{Attribute}
 use Rattle.rules.specs.declared.Head.{Head}
 use Rattle.rules.specs.declared.Card.{Card}
 use Rattle.rules.specs.declared.Figures.{Figures}
-use Rattle.findings.specs.declared.Found.{Found}
-use Rattle.findings.specs.declared.Found.TheVariants.{Reportable, NotReportable}
+use Rattle.rules.specs.declared.Findings.{Findings}
 
 -- the stored results as a map: place k of the list stands for container k + 1
 abbrev pub in_order : List ℕ → Contents
@@ -41,8 +40,8 @@ abbrev pub reportable : Card → Figures → Bool
 reportable c f = leb f.count most_held && within_limits c.head c.rows f
 
 -- what is found by attribute, card and figures, where these are reportable
-abbrev pub found_of : Attribute → Card → Figures → Found
-found_of a c f = pick (reportable c f) (Reportable (findings_of a c f)) NotReportable
+abbrev pub found_of : Attribute → Card → Figures → Option Findings
+found_of a c f = pick (reportable c f) (Some (findings_of a c f)) None
 
 -- ---- as facts
 -- as many results as the numbers on the way to H leave room for: more than a tally holds

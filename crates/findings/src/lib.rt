@@ -1,33 +1,30 @@
 // The findings of a report: what its five lines say.
 #![tactic(auto)]
 
-ghost use Rattle.std.specs.Prelude.{◌≡◌, ◌≤◌};
+ghost use Rattle.std.specs.Prelude.{◌≡◌, ◌*◌, ◌≤◌, length, false};
+ghost use Rattle.rules.specs.Limits.{highest_x};
+ghost use Rattle.rules.specs.Attributes.{is_void};
 ghost use Rattle.rules.specs.Figures.{figures_of, mean_of, less_whole};
-ghost use Rattle.rules.specs.Report.{no_value, findings_of};
+ghost use Rattle.rules.specs.Report.{judgement_of, findings_of};
 ghost use Rattle.rounding.specs.Dividing.{Workable};
 ghost use Rattle.findings.specs.Values.{h_against, r_against};
-ghost use Rattle.findings.specs.Reportable.{in_order, found_of, IsReportable};
+ghost use Rattle.findings.specs.Reportable.{in_order, found_of, Served, IsReportable};
 
 use rules::{
-    Attribute, Card, Figures, Findings, Fraction, Limit, MOST_HELD, Rounded, Side, Value, Verdict,
+    Attribute, Card, Figures, Findings, Fraction, Judgement, MOST_HELD, Rounded, Side, Value,
 };
 
 mod figures;
 mod values;
 
-// NotReportable: too few results, or what no open and no enter accept.
-#[derive(Drop)]
-pub enum Found {
-    Reportable(Findings),
-    NotReportable,
-}
-
 // The mean in units of its last printed place, half up, with its side.
+#[tactic(auto, using(crate::proofs::ValueLaws::mean_laws), unfolding(rules::specs::Figures::mean_of))]
 fn mean(a: Attribute, f: Figures) -> Rounded
-    requires { 1 ≤ f.count }
-    ensures { result ≡ mean_of a f }
+    requires { Served f }
+    ensures { (result ≡ mean_of a f) × (result.nearest ≤ 100 * highest_x) }
 {
-    let d = rounding::divide(a.mean_scale(f.count) as u64, f.sum as u64, f.count as u64);
+    let scale = a.mean_scale(f.count);
+    let d = rounding::divide(u64::from(scale), u64::from(f.sum), u64::from(f.count));
     d.rounded
 }
 
@@ -35,117 +32,100 @@ fn mean(a: Attribute, f: Figures) -> Rounded
 fn less(r: Rounded, whole: u64) -> Rounded
     ensures { result ≡ less_whole r whole }
 {
-    let side = r.side;
-    if r.nearest < whole {
-        return Rounded {
-            nearest: 0,
-            side: Side::Smaller,
-        };
-    }
     Rounded {
-        nearest: r.nearest - whole,
-        side: side,
+        nearest: r.nearest.saturating_sub(whole),
+        side: if r.nearest < whole {
+            Side::Smaller
+        } else {
+            r.side
+        },
     }
 }
 
 // H from V/W, G and the critical value.
-fn h_value(q: Fraction, offset: u16, critical: Limit) -> Value
+fn h_value(q: Fraction, offset: u16, critical: Option<u32>) -> Value
     requires { Workable 100 q.over q.under }
     ensures { result ≡ h_against q offset critical }
 {
     let d = rounding::divide(100, q.over, q.under);
-    let h = less(d.rounded, 10 * offset as u64);
-    let side = h.side;
+    let h = less(d.rounded, 10 * u64::from(offset));
     Value {
         places: 2,
         value: h.nearest,
-        side: side,
+        side: h.side,
         limit: critical,
         verdict: verdicts::verdict_of_h(d, offset, critical),
     }
 }
 
 // R with the tolerated range.
-fn r_value(a: Attribute, f: Figures, tolerated: Limit) -> Value
+fn r_value(a: Attribute, f: Figures, tolerated: Option<u32>) -> Value
     requires { f.smallest ≤ f.largest }
     ensures { result ≡ r_against a f tolerated }
 {
     let range = f.largest - f.smallest;
     Value {
         places: a.places() as u8,
-        value: range as u64,
+        value: u64::from(range),
         side: Side::Unrounded,
         limit: tolerated,
         verdict: verdicts::verdict_of_r(range, tolerated),
     }
 }
 
-// Beyond the limits of the mean no H or R is worked out.
-fn no_value() -> Value
-    ensures { result ≡ no_value }
+// H, R and the lot's verdict, where the mean is within the attribute's limits. The row goes by the mean that is printed.
+#[tactic(auto, using(crate::proofs::ValueLaws::h_workable))]
+fn judgement(a: Attribute, c: Card, f: Figures, printed: u32) -> Judgement
+    requires reportable { IsReportable c f }
+    requires printed { printed ≡ (mean_of a f).nearest }
+    requires within { is_void a f.count f.sum ≡ false }
+    ensures { result ≡ judgement_of a c f }
 {
-    Value {
-        places: 0,
-        value: 0,
-        side: Side::Unrounded,
-        limit: Limit::Absent,
-        verdict: Verdict::Undecided,
+    let scale = a.mean_scale(f.count);
+    let critical = verdicts::critical_at(c.critical[usize::from(f.count)]);
+    let tolerated = verdicts::tolerated_for(c, f.count, printed, scale);
+    let h = h_value(values::ratio(a, c.head, f), c.head.offset, critical);
+    let r = r_value(a, f, tolerated);
+    Judgement {
+        h,
+        r,
+        lot: verdicts::together(h.verdict, r.verdict),
     }
 }
 
-// The findings from attribute, card and figures.
+// The findings from attribute, card and figures. Whether the lot is void goes by the exact mean, f.sum / f.count.
+#[tactic(auto, unfolding(rules::specs::Report::findings_of))]
 fn of_figures(a: Attribute, c: Card, f: Figures) -> Findings
     requires { IsReportable c f }
     ensures { result ≡ findings_of a c f }
 {
-    let n = f.count as usize;
-    let places = a.mean_places(f.count) as u8;
     let mean = mean(a, f);
-    // The row goes by the mean that is printed, printed / scale; void goes by the exact one, f.sum / f.count.
-    let scale = a.mean_scale(f.count);
     let printed = mean.nearest as u32;
-    let side = mean.side;
-    if a.is_void(f.count, f.sum) {
-        return Findings {
-            count: f.count,
-            places: places,
-            mean: mean.nearest,
-            side: side,
-            void: true,
-            h: no_value(),
-            r: no_value(),
-            lot: Verdict::Undecided,
-        };
-    }
-    let head = c.head;
-    let q = values::ratio(a, head, f);
-    let h = h_value(q, head.offset, verdicts::critical_at(c.critical[n]));
-    let r = r_value(a, f, verdicts::tolerated_for(c, f.count, printed, scale));
-    let by_h = h.verdict;
-    let by_r = r.verdict;
+    let judgement = if a.is_void(f.count, f.sum) {
+        None
+    } else {
+        Some(judgement(a, c, f, printed))
+    };
     Findings {
         count: f.count,
-        places: places,
+        places: a.mean_places(f.count) as u8,
         mean: mean.nearest,
-        side: side,
-        void: false,
-        h: h,
-        r: r,
-        lot: verdicts::together(by_h, by_r),
+        side: mean.side,
+        judgement,
     }
 }
 
-// The findings from attribute, card and the first n results, where these are reportable.
-pub fn of_lot(a: Attribute, c: Card, results: &[u16; MOST_HELD], n: usize) -> Found
-    ensures { result ≡ found_of a c (figures_of n (in_order results.now)) }
+// The findings from attribute, card and results. None: too few results, or what no open and no enter accept.
+pub fn of_lot(a: Attribute, c: Card, results: &[u16]) -> Option<Findings>
+    ensures { result ≡ found_of a c (figures_of (length results.now) (in_order results.now)) }
 {
-    if MOST_HELD < n {
-        return Found::NotReportable;
+    if MOST_HELD < results.len() {
+        return None;
     }
-    let f = figures::figures_of(results, n);
-    let head = c.head;
-    if figures::are_within_limits(f, head, c.rows) {
-        return Found::Reportable(of_figures(a, c, f));
+    let f = figures::figures_of(results);
+    if figures::are_within_limits(f, c.head, c.rows) {
+        Some(of_figures(a, c, f))
+    } else {
+        None
     }
-    Found::NotReportable
 }

@@ -11,20 +11,21 @@ fn deviation(f: Figures) -> u64
     requires { Served f }
     ensures { result ≡ rule·deviation f }
 {
-    let s = f.sum as u64;
-    f.count as u64 * f.squares - s * s
+    let s = u64::from(f.sum);
+    u64::from(f.count) * f.squares - s * s
 }
 
 // 10·n·N·D / ((N-1)·S·(10000·N - S)·F).
+#[tactic(auto, using(crate::proofs::ValueLaws::percentages_most))]
 fn percentages(h: Head, f: Figures) -> Fraction
     requires { Served f × HeadWithin h }
     ensures { result ≡ of_percentages h f }
 {
-    let n = f.count as u64;
-    let s = f.sum as u64;
+    let n = u64::from(f.count);
+    let s = u64::from(f.sum);
     Fraction {
-        over: 10 * h.seeds as u64 * n * deviation(f),
-        under: (n - 1) * s * (HIGHEST_X as u64 * n - s) * h.factor as u64,
+        over: 10 * u64::from(h.seeds) * n * deviation(f),
+        under: (n - 1) * s * (u64::from(HIGHEST_X) * n - s) * u64::from(h.factor),
     }
 }
 
@@ -35,18 +36,18 @@ fn counts(h: Head, f: Figures) -> Fraction
 {
     Fraction {
         over: 10 * deviation(f),
-        under: (f.count as u64 - 1) * f.sum as u64 * h.factor as u64,
+        under: (u64::from(f.count) - 1) * u64::from(f.sum) * u64::from(h.factor),
     }
 }
 
 // V/W.
+#[tactic(auto, unfolding(rules::specs::Figures::ratio))]
 pub fn ratio(a: Attribute, h: Head, f: Figures) -> Fraction
     requires { Served f × HeadWithin h }
     ensures { result ≡ rule·ratio a h f }
 {
     match a {
-        Attribute::Purity => percentages(h, f),
-        Attribute::Germination => percentages(h, f),
+        Attribute::Purity | Attribute::Germination => percentages(h, f),
         Attribute::Count => counts(h, f),
     }
 }

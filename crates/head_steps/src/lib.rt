@@ -2,212 +2,167 @@
 #![tactic(auto)]
 
 ghost use Rattle.std.specs.Prelude.{◌≡◌, true};
+ghost use Rattle.rules.specs.declared.Card.{Card};
 ghost use Rattle.rules.specs.declared.Frame.{Frame};
 ghost use Rattle.rules.specs.declared.Frame.TheVariants as frame;
-ghost use Rattle.head_steps.specs.Promise.{Lists, lists_of, with_critical_list, with_row_lists, at_first, is_result, HeadLineIs};
+ghost use Rattle.head_steps.specs.Promise.{at_first, is_result, HeadStepIs, HeadLineIs};
 
-use rules::{CRITICALS, Frame, Head, Lot, MOST_ROWS, Refusal, Stage};
+use rules::{Card, Frame, Head, Lot, MOST_ROWS, Refusal, Stage};
 
-// What the lines of lot and card came to, but for the card's lists: the stage, the lot, F, G, n and the number of rows of the card,
-// and N of the critical frame before, 0 for none.
+// What the lines of lot and card came to, beside the card: the stage, the lot, and N of the critical frame before, 0 for none.
 #[derive(Clone, Copy)]
 pub struct Progress {
     pub stage: Stage,
     pub lot: Lot,
-    pub head: Head,
-    pub rows: usize,
     pub last: u16,
-}
-
-// What a line comes to before the first result.
-#[derive(Clone, Copy)]
-pub enum HeadLine {
-    // a line of lot or card, taken
-    Taken(Progress),
-    // a result or the end may stand here, and does: it is not taken yet
-    Results,
-    Refused(Refusal),
 }
 
 // Nothing is read.
 pub fn start() -> Progress
     ensures { result ≡ at_first }
 {
-    let lot = Lot {
-        attribute: 0,
-        containers: 0,
-    };
-    let head = Head {
-        factor: 0,
-        offset: 0,
-        seeds: 0,
-    };
     Progress {
         stage: Stage::Start,
-        lot: lot,
-        head: head,
-        rows: 0,
+        lot: Lot::default(),
         last: 0,
     }
 }
 
-fn lot_step(p: Progress, a: u16, n: u16) -> HeadLine
-    ensures { (l : Lists) → HeadLineIs (frame.Lot a n) p l result l }
+#[tactic(auto, unfolding(rules::specs::Reading::lot_step))]
+fn lot_step(p: Progress, attribute: u16, containers: u16) -> Result<Progress, Refusal>
+    ensures { (c : Card) → HeadStepIs (frame.Lot attribute containers) p c result c }
 {
-    let stage = p.stage;
-    if !stages::takes(stage, 1) {
-        return HeadLine::Refused(Refusal::OutOfTurn);
+    if !stages::takes(p.stage, 1) {
+        return Err(Refusal::OutOfTurn);
     }
-    if !card_parts::lot_good(a, n) {
-        return HeadLine::Refused(Refusal::BadLot);
+    if !card_parts::lot_good(attribute, containers) {
+        return Err(Refusal::BadLot);
     }
-    let lot = Lot {
-        attribute: a,
-        containers: n,
-    };
-    let head = p.head;
-    HeadLine::Taken(Progress {
+    Ok(Progress {
         stage: Stage::Lot,
-        lot: lot,
-        head: head,
-        rows: p.rows,
-        last: p.last,
+        lot: Lot {
+            attribute,
+            containers,
+        },
+        ..p
     })
 }
 
-fn card_step(p: Progress, f: u16, g: u16, n: u16) -> HeadLine
-    ensures { (l : Lists) → HeadLineIs (frame.Card f g n) p l result l }
+#[tactic(auto, unfolding(rules::specs::Reading::card_step))]
+fn card_step(
+    p: Progress,
+    card: &mut Card,
+    factor: u16,
+    offset: u16,
+    seeds: u16,
+) -> Result<Progress, Refusal>
+    ensures { HeadStepIs (frame.Card factor offset seeds) p card.old result card.new }
 {
-    let stage = p.stage;
-    let lot = p.lot;
     let head = Head {
-        factor: f,
-        offset: g,
-        seeds: n,
+        factor,
+        offset,
+        seeds,
     };
-    if !stages::takes(stage, 2) {
-        return HeadLine::Refused(Refusal::OutOfTurn);
+    if !stages::takes(p.stage, 2) {
+        return Err(Refusal::OutOfTurn);
     }
-    if !card_parts::head_good(lot.attribute, head) {
-        return HeadLine::Refused(Refusal::BadCard);
+    if !card_parts::head_good(p.lot.attribute, head) {
+        return Err(Refusal::BadCard);
     }
-    HeadLine::Taken(Progress {
+    card.head = head;
+    Ok(Progress {
         stage: Stage::Card,
-        lot: lot,
-        head: head,
-        rows: p.rows,
-        last: p.last,
+        ..p
     })
 }
 
-fn critical_step(p: Progress, critical: &mut [u32; CRITICALS], k: u16, v: u16) -> HeadLine
-    ensures { (l : Lists) → HeadLineIs (frame.Critical k v) p (with_critical_list l critical.old) result (with_critical_list l critical.new) }
+// The critical value v for k results.
+#[tactic(auto, unfolding(rules::specs::Reading::critical_step))]
+fn critical_step(p: Progress, card: &mut Card, k: u16, v: u16) -> Result<Progress, Refusal>
+    ensures { HeadStepIs (frame.Critical k v) p card.old result card.new }
 {
-    let stage = p.stage;
-    let lot = p.lot;
-    let head = p.head;
-    if !stages::takes(stage, 3) {
-        return HeadLine::Refused(Refusal::OutOfTurn);
+    if !stages::takes(p.stage, 3) {
+        return Err(Refusal::OutOfTurn);
     }
     if !card_parts::critical_follows(p.last, k) {
-        return HeadLine::Refused(Refusal::BadCard);
+        return Err(Refusal::BadCard);
     }
-    critical[k as usize] = v as u32 + 1;
-    HeadLine::Taken(Progress {
+    card.critical[usize::from(k)] = u32::from(v) + 1;
+    Ok(Progress {
         stage: Stage::Critical,
-        lot: lot,
-        head: head,
-        rows: p.rows,
         last: k,
+        ..p
     })
 }
 
+// A row for l to h results with a mean up to b: the range r is tolerated.
+#[tactic(auto, unfolding(rules::specs::Reading::range_step))]
 fn range_step(
     p: Progress,
-    lowest: &mut [u16; MOST_ROWS],
-    highest: &mut [u16; MOST_ROWS],
-    bound: &mut [u16; MOST_ROWS],
-    tolerated: &mut [u16; MOST_ROWS],
+    card: &mut Card,
     l: u16,
     h: u16,
     b: u16,
     r: u16,
-) -> HeadLine
-    ensures { (o : Lists) → HeadLineIs (frame.Range l h b r) p (with_row_lists o lowest.old highest.old bound.old tolerated.old) result (with_row_lists o lowest.new highest.new bound.new tolerated.new) }
+) -> Result<Progress, Refusal>
+    ensures { HeadStepIs (frame.Range l h b r) p card.old result card.new }
 {
-    let stage = p.stage;
-    let lot = p.lot;
-    let head = p.head;
-    let at = p.rows;
-    if !stages::takes(stage, 4) {
-        return HeadLine::Refused(Refusal::OutOfTurn);
+    let at = card.rows;
+    if !stages::takes(p.stage, 4) {
+        return Err(Refusal::OutOfTurn);
     }
     if !card_parts::row_good(l, h, b) {
-        return HeadLine::Refused(Refusal::BadCard);
+        return Err(Refusal::BadCard);
     }
     if MOST_ROWS <= at {
-        return HeadLine::Refused(Refusal::CardFull);
+        return Err(Refusal::CardFull);
     }
-    lowest[at] = l;
-    highest[at] = h;
-    bound[at] = b;
-    tolerated[at] = r;
-    HeadLine::Taken(Progress {
+    card.lowest[at] = l;
+    card.highest[at] = h;
+    card.bound[at] = b;
+    card.tolerated[at] = r;
+    card.rows += 1;
+    Ok(Progress {
         stage: Stage::Range,
-        lot: lot,
-        head: head,
-        rows: at + 1,
-        last: p.last,
+        ..p
     })
 }
 
-// A result or the end: whether it may stand here.
-fn results_begin(p: Progress) -> HeadLine
-    ensures { (f : Frame) (l : Lists) → is_result f ≡ true → HeadLineIs f p l result l }
+// A result or the end: whether it may stand here. It is not taken yet.
+#[tactic(auto, using(crate::proofs::HeadLaws::too_early))]
+fn results_begin(p: Progress) -> Result<Option<Progress>, Refusal>
+    ensures { (f : Frame) (c : Card) → is_result f ≡ true → HeadLineIs f p c result c }
 {
-    let stage = p.stage;
-    if stages::takes(stage, 5) {
-        return HeadLine::Results;
+    if stages::takes(p.stage, 5) {
+        Ok(None)
+    } else {
+        Err(Refusal::OutOfTurn)
     }
-    HeadLine::Refused(Refusal::OutOfTurn)
 }
 
-// What a line with this frame does before the first result.
-pub fn head_step(
-    p: Progress,
-    critical: &mut [u32; CRITICALS],
-    lowest: &mut [u16; MOST_ROWS],
-    highest: &mut [u16; MOST_ROWS],
-    bound: &mut [u16; MOST_ROWS],
-    tolerated: &mut [u16; MOST_ROWS],
-    f: Frame,
-) -> HeadLine
-    ensures { HeadLineIs f p (lists_of critical.old lowest.old highest.old bound.old tolerated.old) result (lists_of critical.new lowest.new highest.new bound.new tolerated.new) }
+// What a line with this frame does before the first result: it is taken, or refused. None where a result or the end stands where it may,
+// which is not taken here.
+pub fn head_step(p: Progress, card: &mut Card, f: Frame) -> Result<Option<Progress>, Refusal>
+    ensures { HeadLineIs f p card.old result card.new }
 {
     match f {
-        Frame::Bad => HeadLine::Refused(Refusal::BadLine),
+        Frame::Bad => Err(Refusal::BadLine),
         Frame::Lot {
-            attribute: a,
-            containers: n,
-        } => lot_step(p, a, n),
+            attribute,
+            containers,
+        } => lot_step(p, attribute, containers).map(Some),
         Frame::Card {
-            factor: f,
-            offset: g,
-            seeds: n,
-        } => card_step(p, f, g, n),
-        Frame::Critical { count: k, value: v } => critical_step(p, critical, k, v),
+            factor,
+            offset,
+            seeds,
+        } => card_step(p, card, factor, offset, seeds).map(Some),
+        Frame::Critical { count, value } => critical_step(p, card, count, value).map(Some),
         Frame::Range {
-            lowest: l,
-            highest: h,
-            bound: b,
-            tolerated: r,
-        } => range_step(p, lowest, highest, bound, tolerated, l, h, b, r),
-        Frame::Result { container: _, x: _ } => results_begin(p),
-        Frame::End { count: _ } => results_begin(p),
-        Frame::Balance {
-            container: _,
-            status: _,
-            pans: _,
-        } => results_begin(p),
+            lowest,
+            highest,
+            bound,
+            tolerated,
+        } => range_step(p, card, lowest, highest, bound, tolerated).map(Some),
+        Frame::Result { .. } | Frame::End { .. } | Frame::Balance { .. } => results_begin(p),
     }
 }

@@ -2,7 +2,7 @@
 use native.Mathlib.Decide.{ℕ_discrete}
 use mathlib.Core.Path.{◌≡◌, refl, sym, ap, ap₂, ◌∙◌, subst}
 use mathlib.Core.List.{List, ◌∷◌}
-use Rattle.rules.specs.Numbers.{number_of}
+use Rattle.rules.specs.Numbers.{number_in}
 use Rattle.rules.specs.Ledger.{Ledger, Judged, fresh_ledger, open_on, enter_on, weigh_on, withdraw_on, join_on}
 use Rattle.rules.specs.ListReading.{Listed, list_on}
 use Rattle.rules.specs.Cards.{open_number}
@@ -29,14 +29,14 @@ pub record Agrees (cs : Calls) (ns : List Answer) (t : Tally) : Type 0 where
 
 -- a refused open leaves a sound tally sound
 open_sound : (t : Tally) (l : Lot) (c : Card) (r : Outcome) → Sound t → Opened t l c r → Sound r.tally
-open_sound t l c r s o = go (ℕ_discrete (number_of r.refusal) 0)
+open_sound t l c r s o = go (ℕ_discrete (number_in r.answer) 0)
   where
-    go : Dec (number_of r.refusal ≡ 0) → Sound r.tally
+    go : Dec (number_in r.answer ≡ 0) → Sound r.tally
     go (yes e) = o.sound e
     go (no h) = subst Sound (sym (o.kept h)) s
 
 -- one more call, answered as the ledger judges it
-further : {ns ms : List Answer} (r : Outcome) (j : Judged) → answer r ≡ j → ns ≡ ms → (view r.tally ≡ j.ledger) × (numbered (number_of r.refusal) ∷ ns ≡ numbered j.number ∷ ms)
+further : {ns ms : List Answer} (r : Outcome) (j : Judged) → answer r ≡ j → ns ≡ ms → (view r.tally ≡ j.ledger) × (numbered (number_in r.answer) ∷ ns ≡ numbered j.number ∷ ms)
 further r j e p = (ap (λ (i : Judged). i.ledger) e, ap₂ ◌∷◌ (ap (λ (i : Judged). numbered i.number) e) p)
 
 -- an accepted open leaves nothing of what was there

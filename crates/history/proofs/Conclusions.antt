@@ -1,4 +1,5 @@
 -- What the bytes of a line of H tell where its two figures are the same. Assumes nothing.
+use Rattle.std.specs.Prelude.{Option, None, Some}
 use Prim.Native.Nat.{ℕ, ◌+◌, ◌*◌, ◌^◌, ◌≤◌, ◌<◌}
 use native.Mathlib.Omega.{arith}
 use native.Mathlib.Decide.{dec_le, ℕ_discrete}
@@ -13,8 +14,6 @@ use Rattle.rules.specs.Text.{text, byte, pointed}
 use Rattle.rules.specs.Figures.{critical_for}
 use Rattle.rules.specs.Report.{limit_text}
 use Rattle.rules.specs.Ledger.{Ledger, held}
-use Rattle.rules.specs.declared.Limit.{Limit}
-use Rattle.rules.specs.declared.Limit.TheVariants.{Absent, At}
 use Rattle.history.specs.Verdict.{Marked, quotient, upper, lower, Against, Concludes}
 use Rattle.history.proofs.OccursLaws.{occurs, occurs_append, Lacks, written, Apart, blank_apart, larger_apart, smaller_apart, equal_apart, pointed_lacks, limit_lacks, cut_same}
 use Rattle.history.proofs.FigureLaws.{never_none, pointed_same}
@@ -76,10 +75,10 @@ record OneByte (mark : List ℕ) : Type 0 where
   byte_is : mark ≡ byte is
 
 module _ (g : Ledger) (value : ℕ) (mark word : List ℕ) (m : Marked (upper g) (value * (quotient g).under + lower g) mark)
-    (against : (v : ℕ) → critical_for g.card (held g) ≡ At v → Against g value v word)
-    (high : value < 10 ^ 22) (critical_high : (v : ℕ) → critical_for g.card (held g) ≡ At v → v < 10 ^ 22)
+    (against : (v : ℕ) → critical_for g.card (held g) ≡ Some v → Against g value v word)
+    (high : value < 10 ^ 22) (critical_high : (v : ℕ) → critical_for g.card (held g) ≡ Some v → v < 10 ^ 22)
     (word-lacks : (b : ℕ) → Apart b → Lacks b word) where
-  abbrev critical : Limit
+  abbrev critical : Option ℕ
   critical = critical_for g.card (held g)
 
   abbrev line : List ℕ
@@ -113,17 +112,17 @@ module _ (g : Ledger) (value : ℕ) (mark word : List ℕ) (m : Marked (upper g)
       let same = same_figure P L word figure w k.is b lacks-figure lacks-limit (word-lacks b a) blank blank-figure blank-limit cut in
       (k.byte_is ∙ ap byte is, same.0, same.1)
 
-  over_by : (l : Limit) → critical ≡ l → pointed 2 value ≡ limit_text 2 l → value * (quotient g).under + lower g < upper g → word ≡ text "over"
+  over_by : (l : Option ℕ) → critical ≡ l → pointed 2 value ≡ limit_text 2 l → value * (quotient g).under + lower g < upper g → word ≡ text "over"
   unfolding limit_text
-  over_by Absent q e h = absurd (never_none 2 value e)
-  over_by (At v) q e h =
+  over_by None q e h = absurd (never_none 2 value e)
+  over_by (Some v) q e h =
       let same = pointed_same value v high (critical_high v q) e in
       (against v q).over (rw same at (let k : (value + 10 * g.card.head.offset) * (quotient g).under < upper g = omega arith in k))
 
-  kept_by : (l : Limit) → critical ≡ l → pointed 2 value ≡ limit_text 2 l → upper g ≤ value * (quotient g).under + lower g → word ≡ text "kept"
+  kept_by : (l : Option ℕ) → critical ≡ l → pointed 2 value ≡ limit_text 2 l → upper g ≤ value * (quotient g).under + lower g → word ≡ text "kept"
   unfolding limit_text
-  kept_by Absent q e h = absurd (never_none 2 value e)
-  kept_by (At v) q e h =
+  kept_by None q e h = absurd (never_none 2 value e)
+  kept_by (Some v) q e h =
       let same = pointed_same value v high (critical_high v q) e in
       let most : upper g ≤ (v + 10 * g.card.head.offset) * (quotient g).under = rw same at (let k : upper g ≤ (value + 10 * g.card.head.offset) * (quotient g).under = omega arith in k) in
       (against v q).kept (λ x. omega arith)

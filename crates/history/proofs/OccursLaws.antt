@@ -1,4 +1,5 @@
 -- How often a byte stands in a text: texts without a byte, the lines that they make, and a text cut at a byte. Assumes nothing.
+use Rattle.std.specs.Prelude.{Option, None, Some}
 use Prim.Native.Nat.{ℕ, zero, suc, ◌+◌, ◌/◌, ◌^◌}
 use native.Mathlib.Omega.{arith}
 use mathlib.Core.Path.{◌≡◌, refl, sym, ap, ap₂, ◌∙◌}
@@ -13,8 +14,6 @@ use Rattle.rules.specs.Lines.{ended, cut_from, lines_of}
 use Rattle.rules.specs.Report.{mark_text, verdict_word, limit_text, lot_word}
 use Rattle.rules.specs.declared.Side.{Side}
 use Rattle.rules.specs.declared.Side.TheVariants.{Unrounded, Equal, Larger, Smaller}
-use Rattle.rules.specs.declared.Limit.{Limit}
-use Rattle.rules.specs.declared.Limit.TheVariants.{Absent, At}
 use Rattle.rules.specs.declared.Verdict.{Verdict}
 use Rattle.rules.specs.declared.Verdict.TheVariants.{Kept, Over, Undecided}
 use Rattle.rules.proofs.LineLaws.{no_lines}
@@ -128,10 +127,10 @@ module _ {b : ℕ} (a : Apart b) where
       go true = decimal_lacks a.digit n
       go false = joined (joined (decimal_lacks a.digit (n / 10 ^ k)) a.point) (places_lack a.digit k n)
 
-  pub limit_lacks : (k : ℕ) (l : Limit) → Lacks b (limit_text k l)
+  pub limit_lacks : (k : ℕ) (l : Option ℕ) → Lacks b (limit_text k l)
   unfolding limit_text
-  limit_lacks k Absent = a.none
-  limit_lacks k (At v) = pointed_lacks k v
+  limit_lacks k None = a.none
+  limit_lacks k (Some v) = pointed_lacks k v
 
   pub verdict_lacks : (v : Verdict) → Lacks b (verdict_word v)
   unfolding verdict_word

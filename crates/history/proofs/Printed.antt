@@ -1,4 +1,5 @@
 -- What the text of a report says of N, of the mean and of H. Assumes nothing.
+use Rattle.std.specs.Prelude.{Option, None, Some}
 use Prim.Native.Nat.{ℕ, ◌+◌, ◌*◌, ◌^◌, ◌≤◌, ◌<◌}
 use native.Mathlib.Decide.{dec_le}
 use native.Mathlib.Omega.{arith}
@@ -14,11 +15,10 @@ use Rattle.rules.specs.Rounding.{side_of}
 use Rattle.rules.specs.Text.{text, byte, decimal, pointed}
 use Rattle.rules.specs.Attributes.{is_void, mean_places, mean_scale}
 use Rattle.rules.specs.Figures.{figures, mean_of, exceeds, critical_for, verdict_by, together}
-use Rattle.rules.specs.Report.{count_line, mark_text, mean_line, verdict_word, limit_text, value_line, lot_word, lot_verdict_line, value_h, value_r, no_value, found_with, findings_of, findings_text, report_of}
+use Rattle.rules.specs.Report.{count_line, mark_text, mean_line, verdict_word, limit_text, value_line, lot_word, lot_verdict_line, value_h, value_r, judgement_of, judgement_text, found_with, findings_of, findings_text, report_of}
 use Rattle.rules.specs.Lines.{ended, lines_of}
 use Rattle.rules.specs.Ledger.{Ledger, held}
 use Rattle.rules.specs.declared.Rounded.{Rounded}
-use Rattle.rules.specs.declared.Limit.TheVariants.{At}
 use Rattle.rules.specs.declared.Value.{Value}
 use Rattle.rules.specs.declared.Verdict.{Verdict}
 use Rattle.rules.specs.declared.Verdict.TheVariants.{Undecided}
@@ -132,10 +132,10 @@ module _ (g : Ledger) (pos : 0 < (quotient g).under) where
       let sum : ((h g).value + 10 * offset) * (quotient g).under ≡ (h g).value * (quotient g).under + lower g = omega arith in
       rw (reported_side (quotient g) offset pos, ← sum) (marked_by (upper g) (quotient g).under ((h g).value + 10 * offset))
 
-  against_limit : (v : ℕ) → critical_for g.card (held g) ≡ At v → Against g (h g).value v (verdict_word (h g).verdict)
+  against_limit : (v : ℕ) → critical_for g.card (held g) ≡ Some v → Against g (h g).value v (verdict_word (h g).verdict)
   against_limit v e = rw e (against_is v)
 
-  worked_out : (h g).value < 10 ^ 22 → ((v : ℕ) → critical_for g.card (held g) ≡ At v → v < 10 ^ 22) → WorkedOut g (valued (text "H ") (h g))
+  worked_out : (h g).value < 10 ^ 22 → ((v : ℕ) → critical_for g.card (held g) ≡ Some v → v < 10 ^ 22) → WorkedOut g (valued (text "H ") (h g))
   unfolding valued
   worked_out high critical_high =
       record {
@@ -185,12 +185,11 @@ mean_shown g many =
 -- the text of a report, by a test whether the mean is void
 abbrev pub text_by : Ledger → Bool → List ℕ
 text_by g b =
-    findings_text
-    (pick b (found_with (attribute g) (figures g) true no_value no_value Undecided) (found_with (attribute g) (figures g) false (h g) (r g) (lot g)))
+    findings_text (found_with (attribute g) (figures g) (pick b None (Some (judgement_of (attribute g) g.card (figures g)))))
 
 pub void_lines : (g : Ledger)
     → lines_of (text_by g true) ≡ ended (count_line_lem g) ∷ ended (mean_line_lem g) ∷ ended (text "H void") ∷ ended (text "R void") ∷ ended (text "LOT void") ∷ []
-unfolding findings_text count_line mean_line value_line lot_verdict_line count_line_lem mean_line_lem occurs
+unfolding findings_text judgement_text count_line mean_line value_line lot_verdict_line count_line_lem mean_line_lem occurs
 void_lines g =
     five_lines (count_endless g) (mean_endless g) (written (text "H void") refl) (written (text "R void") refl) (written (text "LOT void") refl)
 
@@ -199,7 +198,7 @@ lot_line_lem g = text "LOT " ++ lot_word (lot g)
 
 pub worked_lines : (g : Ledger)
     → lines_of (text_by g false) ≡ ended (count_line_lem g) ∷ ended (mean_line_lem g) ∷ ended (valued (text "H ") (h g)) ∷ ended (valued (text "R ") (r g)) ∷ ended (lot_line_lem g) ∷ []
-unfolding findings_text count_line mean_line value_line lot_verdict_line count_line_lem mean_line_lem valued lot_line_lem occurs
+unfolding findings_text judgement_text count_line mean_line value_line lot_verdict_line count_line_lem mean_line_lem valued lot_line_lem occurs
 worked_lines g =
     five_lines (count_endless g) (mean_endless g)
     (valued_endless (text "H ") (h g) (written (text "H ") refl))

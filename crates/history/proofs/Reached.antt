@@ -1,5 +1,6 @@
 -- What the ledgers have that are reported: those of a sound tally with at least five results, and those that a sheet spells. Assumes
 -- nothing.
+use Rattle.std.specs.Prelude.{Some}
 use Prim.Native.Nat.{ℕ, zero, suc, ◌+◌, ◌^◌, ◌≤◌, ◌<◌}
 use native.Mathlib.Omega.{arith}
 use native.Mathlib.Decide.{dec_le}
@@ -15,7 +16,6 @@ use Rattle.rules.specs.Figures.{figures, reported_h, critical_at, critical_for}
 use Rattle.rules.specs.Spread.{HeadWithin}
 use Rattle.rules.specs.Ledger.{Ledger, containers, held}
 use Rattle.rules.specs.declared.Figures.{Figures}
-use Rattle.rules.specs.declared.Limit.TheVariants.{At}
 use Rattle.rules.specs.declared.Lot.{Lot}
 use Rattle.rules.specs.declared.Card.{Card}
 use Rattle.rules.proofs.Bounds.{opened_head, bounds_by}
@@ -88,10 +88,10 @@ module _ (g : Ledger) (r : Reached g) (many : least_reported ≤ held g) where
   value_high e =
       omega (arith, (bounds_by (attribute g) g.card.head (containers g) g.contents r.head r.low many e).reported, highest_most (attribute g))
 
-  pub critical_high : (v : ℕ) → critical_for g.card (held g) ≡ At v → v < 10 ^ 22
+  pub critical_high : (v : ℕ) → critical_for g.card (held g) ≡ Some v → v < 10 ^ 22
   critical_high v e = by (get_or g.card.critical (held g) 0) refl e
     where
-      by : (p : ℕ) → get_or g.card.critical (held g) 0 ≡ p → critical_at p ≡ At v → v < 10 ^ 22
+      by : (p : ℕ) → get_or g.card.critical (held g) 0 ≡ p → critical_at p ≡ Some v → v < 10 ^ 22
       by zero q e = let z : ◌≡◌ {A = ℕ} 0 1 = cc in absurd (omega arith)
       by (suc p) q e =
           let same : p ≡ v = cc in

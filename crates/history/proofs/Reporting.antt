@@ -1,4 +1,5 @@
 -- Two reports of one ledger, its sheet and its list written twice, and the text of a report. Assumes nothing.
+use Rattle.std.specs.Prelude.{Result, Ok}
 use Prim.Native.Nat.{ℕ, ◌≤◌}
 use mathlib.Core.Path.{◌≡◌, refl, sym, ap, ap₂, ◌∙◌}
 use mathlib.Core.Bool.{Bool, true, false}
@@ -8,86 +9,55 @@ use lib.ListN.{length, take}
 use borrow.Author.Tests.{eqb-false, ltb-false}
 use Rattle.rules.specs.Choice.{pick}
 use Rattle.rules.specs.Limits.{least_reported}
-use Rattle.rules.specs.Numbers.{TextAnswer, with_bytes, refuses_text, reported_answer, reported_size, written_answer, written_size, printed_answer, printed_size}
+use Rattle.rules.specs.Numbers.{TextAnswer, refuses_text, text_answer}
 use Rattle.rules.specs.Text.{laid, laid_in}
 use Rattle.rules.specs.Report.{report_of, report_on}
 use Rattle.rules.specs.Writing.{sheet_of, write_on}
 use Rattle.rules.specs.ListWriting.{list_of, write_list_on}
 use Rattle.rules.specs.Ledger.{Ledger, held, containers}
-use Rattle.rules.specs.declared.TextSize.{TextSize}
-use Rattle.rules.specs.declared.Reported.{Reported}
-use Rattle.rules.specs.declared.Reported.TheVariants as reported
-use Rattle.rules.specs.declared.Written.{Written}
-use Rattle.rules.specs.declared.Written.TheVariants as written
-use Rattle.rules.specs.declared.Printed.{Printed}
-use Rattle.rules.specs.declared.Printed.TheVariants as printed
+use Rattle.rules.specs.declared.Refusal.{Refusal}
+use Rattle.rules.proofs.RefusalLaws.{answer_by, answer_back}
 use Rattle.history.specs.Alike.{SameText, SameReport, SameSheet, SameList}
 use Rattle.history.proofs.Texts.{with_text, front_and_rest, laid_text}
 
--- ---- two answers of a call that writes, whose number and length tell the answer: for one text, or one refusal before it
-module _ {R : Type 0} (size : R → TextSize) (made : ℕ → ℕ → R) (made-is : (r : R) → made (size r).number (size r).size ≡ r) (b₁ b₂ : List ℕ) (r₁ r₂ : R) (a₁ a₂ : List ℕ) where
+-- ---- two answers of a call that writes: for one text, or one refusal before it
+module _ (b₁ b₂ : List ℕ) (r₁ r₂ : Result ℕ Refusal) (a₁ a₂ : List ℕ) where
   -- with one number and one text
-  with_one : (e : ℕ) (t : List ℕ) → with_bytes (size r₁) a₁ ≡ with_text e t b₁ → with_bytes (size r₂) a₂ ≡ with_text e t b₂ → SameText (λ r. (size r).size) b₁ b₂ r₁ r₂ a₁ a₂
+  with_one : (e : ℕ) (t : List ℕ) → text_answer r₁ a₁ ≡ with_text e t b₁ → text_answer r₂ a₂ ≡ with_text e t b₂ → SameText b₁ b₂ r₁ r₂ a₁ a₂
   with_one e t p q =
-      let x = front_and_rest e t b₁ (with_bytes (size r₁) a₁) p in
-      let y = front_and_rest e t b₂ (with_bytes (size r₂) a₂) q in
+      let x = front_and_rest e t b₁ (text_answer r₁ a₁) p in
+      let y = front_and_rest e t b₂ (text_answer r₂ a₂) q in
       let numbers = ap (λ (o : TextAnswer). o.number) p ∙ sym (ap (λ (o : TextAnswer). o.number) q) in
       let sizes = ap (λ (o : TextAnswer). o.size) p ∙ sym (ap (λ (o : TextAnswer). o.size) q) in
-      record { answer = sym (made-is r₁) ∙ (ap₂ made numbers sizes ∙ made-is r₂); text = x.0 ∙ sym y.0; rest₁ = x.1; rest₂ = y.1 }
+      record { answer = sym (answer_back r₁) ∙ (ap₂ answer_by numbers sizes ∙ answer_back r₂); text = x.0 ∙ sym y.0; rest₁ = x.1; rest₂ = y.1 }
 
-  pub same_text : (s : Bool) (e : ℕ) (t : List ℕ) → length b₁ ≡ length b₂ → with_bytes (size r₁) a₁ ≡ pick s (refuses_text e b₁) (laid_in t b₁)
-      → with_bytes (size r₂) a₂ ≡ pick s (refuses_text e b₂) (laid_in t b₂) → SameText (λ r. (size r).size) b₁ b₂ r₁ r₂ a₁ a₂
+  pub same_text : (s : Bool) (e : ℕ) (t : List ℕ) → length b₁ ≡ length b₂ → text_answer r₁ a₁ ≡ pick s (refuses_text e b₁) (laid_in t b₁)
+      → text_answer r₂ a₂ ≡ pick s (refuses_text e b₂) (laid_in t b₂) → SameText b₁ b₂ r₁ r₂ a₁ a₂
   unfolding laid_in laid
   same_text s e t l p q = by s (ltb (length b₂) (length t)) (rw l at p) q
     where
-      by : (s k : Bool) → with_bytes (size r₁) a₁ ≡ pick s (refuses_text e b₁) (pick k (refuses_text 16 b₁) (with_text 0 t b₁))
-          → with_bytes (size r₂) a₂ ≡ pick s (refuses_text e b₂) (pick k (refuses_text 16 b₂) (with_text 0 t b₂))
-          → SameText (λ r. (size r).size) b₁ b₂ r₁ r₂ a₁ a₂
+      by : (s k : Bool) → text_answer r₁ a₁ ≡ pick s (refuses_text e b₁) (pick k (refuses_text 16 b₁) (with_text 0 t b₁))
+          → text_answer r₂ a₂ ≡ pick s (refuses_text e b₂) (pick k (refuses_text 16 b₂) (with_text 0 t b₂))
+          → SameText b₁ b₂ r₁ r₂ a₁ a₂
       by true k = with_one e []
       by false true = with_one 16 []
       by false false = with_one 0 t
 
-reported_of : ℕ → ℕ → Reported
-reported_of e n = pick (eqb e 15) reported.TooFew (pick (eqb e 16) reported.BufferShort (reported.Length n))
-
-reported_is : (r : Reported) → reported_of (reported_size r).number (reported_size r).size ≡ r
-unfolding reported_of
-reported_is (reported.Length n) = refl
-reported_is reported.TooFew = refl
-reported_is reported.BufferShort = refl
-
-written_of : ℕ → ℕ → Written
-written_of e n = pick (eqb e 3) written.BadLot (pick (eqb e 16) written.BufferShort (written.Length n))
-
-written_is : (r : Written) → written_of (written_size r).number (written_size r).size ≡ r
-unfolding written_of
-written_is (written.Length n) = refl
-written_is written.BadLot = refl
-written_is written.BufferShort = refl
-
-printed_of : ℕ → ℕ → Printed
-printed_of e n = pick (eqb e 16) printed.BufferShort (printed.Length n)
-
-printed_is : (r : Printed) → printed_of (printed_size r).number (printed_size r).size ≡ r
-unfolding printed_of
-printed_is (printed.Length n) = refl
-printed_is printed.BufferShort = refl
-
 -- two reports of one ledger, and its sheet and its list written twice
-pub same_report : (g : Ledger) (b₁ b₂ : List ℕ) (r₁ r₂ : Reported) (a₁ a₂ : List ℕ) → length b₁ ≡ length b₂
-    → reported_answer r₁ a₁ ≡ report_on g b₁ → reported_answer r₂ a₂ ≡ report_on g b₂ → SameReport b₁ b₂ r₁ r₂ a₁ a₂
-same_report g b₁ b₂ r₁ r₂ a₁ a₂ = same_text reported_size reported_of reported_is b₁ b₂ r₁ r₂ a₁ a₂ (ltb (held g) least_reported) 15 (report_of g)
+pub same_report : (g : Ledger) (b₁ b₂ : List ℕ) (r₁ r₂ : Result ℕ Refusal) (a₁ a₂ : List ℕ) → length b₁ ≡ length b₂
+    → text_answer r₁ a₁ ≡ report_on g b₁ → text_answer r₂ a₂ ≡ report_on g b₂ → SameReport b₁ b₂ r₁ r₂ a₁ a₂
+same_report g b₁ b₂ r₁ r₂ a₁ a₂ = same_text b₁ b₂ r₁ r₂ a₁ a₂ (ltb (held g) least_reported) 15 (report_of g)
 
-pub same_sheet : (g : Ledger) (b₁ b₂ : List ℕ) (r₁ r₂ : Written) (a₁ a₂ : List ℕ) → length b₁ ≡ length b₂
-    → written_answer r₁ a₁ ≡ write_on g b₁ → written_answer r₂ a₂ ≡ write_on g b₂ → SameSheet b₁ b₂ r₁ r₂ a₁ a₂
-same_sheet g b₁ b₂ r₁ r₂ a₁ a₂ = same_text written_size written_of written_is b₁ b₂ r₁ r₂ a₁ a₂ (eqb (containers g) 0) 3 (sheet_of g)
+pub same_sheet : (g : Ledger) (b₁ b₂ : List ℕ) (r₁ r₂ : Result ℕ Refusal) (a₁ a₂ : List ℕ) → length b₁ ≡ length b₂
+    → text_answer r₁ a₁ ≡ write_on g b₁ → text_answer r₂ a₂ ≡ write_on g b₂ → SameSheet b₁ b₂ r₁ r₂ a₁ a₂
+same_sheet g b₁ b₂ r₁ r₂ a₁ a₂ = same_text b₁ b₂ r₁ r₂ a₁ a₂ (eqb (containers g) 0) 3 (sheet_of g)
 
-pub same_list : (g : Ledger) (b₁ b₂ : List ℕ) (r₁ r₂ : Printed) (a₁ a₂ : List ℕ) → length b₁ ≡ length b₂
-    → printed_answer r₁ a₁ ≡ write_list_on g b₁ → printed_answer r₂ a₂ ≡ write_list_on g b₂ → SameList b₁ b₂ r₁ r₂ a₁ a₂
-same_list g b₁ b₂ r₁ r₂ a₁ a₂ = same_text printed_size printed_of printed_is b₁ b₂ r₁ r₂ a₁ a₂ false 16 (list_of g)
+pub same_list : (g : Ledger) (b₁ b₂ : List ℕ) (r₁ r₂ : Result ℕ Refusal) (a₁ a₂ : List ℕ) → length b₁ ≡ length b₂
+    → text_answer r₁ a₁ ≡ write_list_on g b₁ → text_answer r₂ a₂ ≡ write_list_on g b₂ → SameList b₁ b₂ r₁ r₂ a₁ a₂
+same_list g b₁ b₂ r₁ r₂ a₁ a₂ = same_text b₁ b₂ r₁ r₂ a₁ a₂ false 16 (list_of g)
 
 -- an accepted report is of at least five results, and its text is the ledger's
-module _ (g : Ledger) (b : List ℕ) (n : ℕ) (a : List ℕ) (e : reported_answer (reported.Length n) a ≡ report_on g b) where
+module _ (g : Ledger) (b : List ℕ) (n : ℕ) (a : List ℕ) (e : text_answer (Ok n) a ≡ report_on g b) where
   many : ltb (held g) least_reported ≡ false
   many = by (ltb (held g) least_reported) (ap (λ (o : TextAnswer). o.number) e)
     where

@@ -1,6 +1,6 @@
 -- The buyer's line: the verdict shall be shown to be the rule's on every sheet, those of next harvest included. From the bytes of
 -- a sheet to the verdict printed.
-use Rattle.std.specs.Prelude.{ℕ, ◌≤◌, ◌<◌, ◌≡◌, List, take, drop}
+use Rattle.std.specs.Prelude.{ℕ, ◌≤◌, ◌<◌, ◌≡◌, List, take, drop, Ok}
 use base.Fml.{Lft}
 use Rattle.std.specs.Borrow.{Bor, MutBor}
 use Rattle.rules.specs.Limits.{least_reported}
@@ -8,7 +8,6 @@ use Rattle.rules.specs.Ledger.{Ledger, held}
 use Rattle.rules.specs.Report.{report_of}
 use Rattle.rules.specs.Reading.{accepted, refused, read_of}
 use Rattle.rules.specs.Printing.{refused_line}
-use Rattle.rules.specs.declared.Printed.TheVariants.{Length}
 use Rattle.reading_theorems.specs.Spelling.{Spelled}
 use Rattle.history.specs.Steps.{JudgeStep}
 use Rattle.history.specs.Verdict.{ReportLines}
@@ -26,6 +25,6 @@ pub data Prints (sheet text : List ℕ) : Type 0 where
 
 pub record EverySheet : Type 0 where
   -- all bytes at all, and any buffer that the text fits
-  pub printed : (κ₁ κ₂ : Lft) (sheet : Bor (List ℕ)) (before : MutBor (List ℕ)) (n : ℕ) (after : MutBor (List ℕ)) → JudgeStep κ₁ κ₂ sheet before (Length n) after → Prints sheet.now (take n after.now)
+  pub printed : (κ₁ κ₂ : Lft) (sheet : Bor (List ℕ)) (before : MutBor (List ℕ)) (n : ℕ) (after : MutBor (List ℕ)) → JudgeStep κ₁ κ₂ sheet before (Ok n) after → Prints sheet.now (take n after.now)
   -- the bytes behind the text stay
-  pub behind : (κ₁ κ₂ : Lft) (sheet : Bor (List ℕ)) (before : MutBor (List ℕ)) (n : ℕ) (after : MutBor (List ℕ)) → JudgeStep κ₁ κ₂ sheet before (Length n) after → drop n after.now ≡ drop n before.now
+  pub behind : (κ₁ κ₂ : Lft) (sheet : Bor (List ℕ)) (before : MutBor (List ℕ)) (n : ℕ) (after : MutBor (List ℕ)) → JudgeStep κ₁ κ₂ sheet before (Ok n) after → drop n after.now ≡ drop n before.now

@@ -1,13 +1,12 @@
 -- The steps of a run: what the functions' own contracts, as the check reads them, say of a call.
-use Rattle.std.specs.Prelude.{ℕ, List}
+use Rattle.std.specs.Prelude.{ℕ, List, Result}
 use base.Fml.{Lft}
 use Rattle.std.specs.Borrow.{Bor, MutBor}
+use Rattle.rules.specs.declared.Refusal.{Refusal}
 use Rattle.rules.specs.declared.Lot.{Lot}
 use Rattle.rules.specs.declared.Card.{Card}
 use Rattle.rules.specs.declared.Pans.{Pans}
 use Rattle.rules.specs.declared.Range.{Range}
-use Rattle.rules.specs.declared.Reported.{Reported}
-use Rattle.rules.specs.declared.Written.{Written}
 use Rattle.tally.specs.declared.Tally.{Tally}
 use Rattle.tally.specs.declared.Outcome.{Outcome}
 use Rattle.tally.proofs.«open».Reads as open-reads
@@ -25,7 +24,6 @@ use Rattle.judge.proofs.judge.Reads as judge-reads
 use Rattle.list_reader.specs.declared.Listing.{Listing}
 use Rattle.list_reader.proofs.read_list.Reads as read-list-reads
 use Rattle.list_writer.proofs.write_list.Reads as write-list-reads
-use Rattle.rules.specs.declared.Printed.{Printed}
 
 abbrev pub FreshStep : Tally → Type 0
 FreshStep t = fresh-reads.Learnt tt tt t tt
@@ -54,15 +52,15 @@ abbrev pub RangeStep : Lft → Bor (List ℕ) → ℕ → Range → Type 0
 RangeStep κ results n r = range-reads.Learnt (κ, tt) (results, (n, tt)) r (results, (n, tt))
 
 -- a report of t into the buffer that has `before`, and `after` as the call returns
-abbrev pub ReportStep : Lft → Tally → MutBor (List ℕ) → Reported → MutBor (List ℕ) → Type 0
+abbrev pub ReportStep : Lft → Tally → MutBor (List ℕ) → Result ℕ Refusal → MutBor (List ℕ) → Type 0
 ReportStep κ t before r after = report-reads.Learnt (κ, tt) (t, (before, tt)) r (t, (after, tt))
 
 -- the sheet of t, written into the buffer that has `before`, and `after` as the call returns
-abbrev pub WriteStep : Lft → Tally → MutBor (List ℕ) → Written → MutBor (List ℕ) → Type 0
+abbrev pub WriteStep : Lft → Tally → MutBor (List ℕ) → Result ℕ Refusal → MutBor (List ℕ) → Type 0
 WriteStep κ t before r after = write-reads.Learnt (κ, tt) (t, (before, tt)) r (t, (after, tt))
 
 -- the held results of t as a comma list, likewise
-abbrev pub WriteListStep : Lft → Tally → MutBor (List ℕ) → Printed → MutBor (List ℕ) → Type 0
+abbrev pub WriteListStep : Lft → Tally → MutBor (List ℕ) → Result ℕ Refusal → MutBor (List ℕ) → Type 0
 WriteListStep κ t before r after = write-list-reads.Learnt (κ, tt) (t, (before, tt)) r (t, (after, tt))
 
 -- a sheet that is read
@@ -70,5 +68,5 @@ abbrev pub ReadStep : Lft → Bor (List ℕ) → Reading → Type 0
 ReadStep κ sheet r = read-reads.Learnt (κ, tt) (sheet, tt) r (sheet, tt)
 
 -- a sheet that is judged into a buffer
-abbrev pub JudgeStep : Lft → Lft → Bor (List ℕ) → MutBor (List ℕ) → Printed → MutBor (List ℕ) → Type 0
+abbrev pub JudgeStep : Lft → Lft → Bor (List ℕ) → MutBor (List ℕ) → Result ℕ Refusal → MutBor (List ℕ) → Type 0
 JudgeStep κ₁ κ₂ sheet before r after = judge-reads.Learnt (κ₁, (κ₂, tt)) (sheet, (before, tt)) r (sheet, (after, tt))

@@ -1,5 +1,5 @@
 -- What a report says of N, of the mean and of H, read off the lines of its text; what H is, exact; and what a user concludes.
-use Rattle.std.specs.Prelude.{ℕ, ◌+◌, ◌-◌, ◌*◌, ◌≤◌, ◌<◌, ◌≡◌, true, List, [], ◌∷◌, ◌++◌}
+use Rattle.std.specs.Prelude.{ℕ, ◌+◌, ◌-◌, ◌*◌, ◌≤◌, ◌<◌, ◌≡◌, true, List, [], ◌∷◌, ◌++◌, None, Some}
 use Rattle.rules.specs.Rounding.{distance, Nearest}
 use Rattle.rules.specs.Text.{text, decimal, pointed}
 use Rattle.rules.specs.Attributes.{attribute_of, is_void, mean_places, mean_scale}
@@ -9,7 +9,6 @@ use Rattle.rules.specs.Lines.{ended, lines_of}
 use Rattle.rules.specs.Ledger.{Ledger, held}
 use Rattle.rules.specs.declared.Attribute.{Attribute}
 use Rattle.rules.specs.declared.Fraction.{Fraction}
-use Rattle.rules.specs.declared.Limit.TheVariants.{Absent, At}
 
 abbrev pub attribute : Ledger → Attribute
 attribute g = attribute_of g.lot.attribute
@@ -81,8 +80,8 @@ pub record WorkedOut (g : Ledger) (line : List ℕ) : Type 0 where
   -- of H against its value, with G/10 added to both: V/W against value and G/10 together, also where H is below zero
   pub marked : Marked (upper g) (value * (quotient g).under + lower g) mark
   pub zero : upper g < lower g → (value ≡ 0) × (mark ≡ text "-")
-  pub against : (v : ℕ) → critical_for g.card (held g) ≡ At v → Against g value v word
-  pub without : critical_for g.card (held g) ≡ Absent → word ≡ text "open"
+  pub against : (v : ℕ) → critical_for g.card (held g) ≡ Some v → Against g value v word
+  pub without : critical_for g.card (held g) ≡ None → word ≡ text "open"
   pub concludes : Concludes line
 
 -- the mean of what a ledger holds is beyond the limits of its attribute

@@ -1,11 +1,9 @@
 -- Demand 3: one claim about whole lists of the calls open, enter, weigh, withdraw, join and comma list, and about the reports of what
 -- they end with.
-use Rattle.std.specs.Prelude.{ℕ, ◌+◌, ◌≡◌, List, length, take}
+use Rattle.std.specs.Prelude.{ℕ, ◌+◌, ◌≡◌, List, length, take, Result, Ok}
 use base.Fml.{Lft}
 use Rattle.std.specs.Borrow.{MutBor}
 use Rattle.rules.specs.Ledger.{held}
-use Rattle.rules.specs.declared.Reported.{Reported}
-use Rattle.rules.specs.declared.Reported.TheVariants.{Length}
 use Rattle.tally.specs.declared.Tally.{Tally}
 use Rattle.tally.specs.View.{view}
 use Rattle.tally.specs.Calls.{Sound}
@@ -13,6 +11,7 @@ use Rattle.history.specs.Calls.{Calls, ledger, Answer, answers, counts}
 use Rattle.history.specs.Run.{Run}
 use Rattle.history.specs.Steps.{ReportStep}
 use Rattle.history.specs.Alike.{SameReport}
+use Rattle.rules.specs.declared.Refusal.{Refusal}
 use Rattle.history.specs.Verdict.{ReportLines}
 
 -- What a list ends with: the tally has what the ledger has, the calls were answered with the ledger's numbers, a refused comma list
@@ -31,6 +30,6 @@ pub record Whole : Type 0 where
   -- any two such lists that end with the same lot, card and held results report alike into any two buffers of one length
   pub alike : (cs ds : Calls) (ns ms : List Answer) (t u : Tally) → Run cs ns t → Run ds ms u → ledger cs ≡ ledger ds
       → (κ₁ κ₂ : Lft) (b₁ b₂ : MutBor (List ℕ)) → length b₁.now ≡ length b₂.now
-      → (r₁ r₂ : Reported) (a₁ a₂ : MutBor (List ℕ)) → ReportStep κ₁ t b₁ r₁ a₁ → ReportStep κ₂ u b₂ r₂ a₂ → SameReport b₁.now b₂.now r₁ r₂ a₁.now a₂.now
+      → (r₁ r₂ : Result ℕ Refusal) (a₁ a₂ : MutBor (List ℕ)) → ReportStep κ₁ t b₁ r₁ a₁ → ReportStep κ₂ u b₂ r₂ a₂ → SameReport b₁.now b₂.now r₁ r₂ a₁.now a₂.now
   -- the text of such a report: N is the number held; the mean, and H where it is worked out, each with its mark
-  pub reports : (cs : Calls) (ns : List Answer) (t : Tally) → Run cs ns t → (κ : Lft) (b : MutBor (List ℕ)) (n : ℕ) (a : MutBor (List ℕ)) → ReportStep κ t b (Length n) a → ReportLines (ledger cs) (take n a.now)
+  pub reports : (cs : Calls) (ns : List Answer) (t : Tally) → Run cs ns t → (κ : Lft) (b : MutBor (List ℕ)) (n : ℕ) (a : MutBor (List ℕ)) → ReportStep κ t b (Ok n) a → ReportLines (ledger cs) (take n a.now)

@@ -1,11 +1,12 @@
 -- Held results come back from the list that was written of them, and calls on sheets are those on tallies. Assumes nothing.
+use Rattle.std.specs.Prelude.{Result, Ok, Err}
 use mathlib.Core.Path.{◌≡◌, refl, sym, ap, ap₂, ◌∙◌}
 use mathlib.Core.List.{List}
 use Prim.Native.Nat.{ℕ, ◌*◌, ◌≤◌}
 use native.Mathlib.Omega.{arith}
 use lib.ListN.{length, take}
 use borrow.Author.Tests.{eqb-false}
-use Rattle.rules.specs.Numbers.{TextAnswer, wrote, printed_answer}
+use Rattle.rules.specs.Numbers.{TextAnswer, wrote, text_answer}
 use Rattle.rules.specs.Contents.{none}
 use Rattle.rules.specs.Cards.{open_number, cut_to_rows}
 use Rattle.rules.specs.Attributes.{attribute_of}
@@ -16,8 +17,8 @@ use Rattle.rules.specs.ListReading.{Listed, list_on}
 use Rattle.rules.specs.ListWriting.{list_of, write_list_on}
 use Rattle.rules.specs.OnSheets.{without_line, call_on, enter_sheet, withdraw_sheet, enter_list_sheet}
 use Rattle.rules.specs.declared.Card.{Card}
-use Rattle.rules.specs.declared.Printed.{Printed}
-use Rattle.rules.specs.declared.Printed.TheVariants as printed
+use Rattle.rules.specs.declared.Refusal.{Refusal}
+use Rattle.rules.proofs.RefusalLaws.{never_zero}
 use Rattle.rules.proofs.TextLaws.{fits_is}
 use Rattle.tally.specs.View.{view}
 use Rattle.tally.specs.Calls.{Sound, Opened, answer}
@@ -69,12 +70,12 @@ module _ (t : Tally) (s : Sound t) where
   short = omega (arith, list_most t s, s.small)
 
 -- a buffer with room for the longest is never short
-room_serves : (t : Tally) (d e : List ℕ) (w : Printed) → Sound t → longest_list ≤ length d → printed_answer w e ≡ write_list_on (view t) d → IsWritten w
+room_serves : (t : Tally) (d e : List ℕ) (w : Result ℕ Refusal) → Sound t → longest_list ≤ length d → text_answer w e ≡ write_list_on (view t) d → IsWritten w
 room_serves t d e w s h q = by w (ap (λ (u : TextAnswer). u.number) (q ∙ fits_is (list_of (view t)) d (omega (arith, short t s))))
   where
-    by : (w : Printed) → (printed_answer w e).number ≡ 0 → IsWritten w
-    by (printed.Length n) z = record { bytes = n; is = refl }
-    by printed.BufferShort z = absurd (eqb-false 16 0 refl z)
+    by : (w : Result ℕ Refusal) → (text_answer w e).number ≡ 0 → IsWritten w
+    by (Ok n) z = record { bytes = n; is = refl }
+    by (Err f) z = absurd (never_zero f z)
 
 -- ---- a call on a sheet that is read as g
 on_ledger_lem : (sheet : List ℕ) (g : Ledger) (n : ℕ) → read_of sheet ≡ accepted g n → AsOnLedger sheet g

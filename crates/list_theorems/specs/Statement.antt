@@ -1,10 +1,10 @@
 -- Held results are written as a comma list, and read into an empty tally of the same lot and card they come back as held; how long a
 -- list is; and a call on the sheet of a tally is the call on the tally. Each step is what the called function's own contract promises.
-use Rattle.std.specs.Prelude.{◌≡◌, List, ℕ, zero, suc, ◌+◌, ◌*◌, ◌≤◌, length, take}
+use Rattle.std.specs.Prelude.{◌≡◌, List, ℕ, zero, suc, ◌+◌, ◌*◌, ◌≤◌, length, take, Result, Ok}
 use base.Fml.{Lft}
 use Rattle.std.specs.Borrow.{Bor, MutBor}
 use Rattle.rules.specs.Limits.{most_held, highest_x, widest}
-use Rattle.rules.specs.Numbers.{number_of}
+use Rattle.rules.specs.Numbers.{number_in}
 use Rattle.rules.specs.Contents.{none}
 use Rattle.rules.specs.Cards.{cut_to_rows}
 use Rattle.rules.specs.Lines.{lines_of}
@@ -15,9 +15,7 @@ use Rattle.rules.specs.ListWriting.{list_of}
 use Rattle.rules.specs.OnSheets.{without_line, after_call, enter_sheet, withdraw_sheet, enter_list_sheet}
 use Rattle.rules.specs.declared.Lot.{Lot}
 use Rattle.rules.specs.declared.Card.{Card}
-use Rattle.rules.specs.declared.Printed.{Printed}
-use Rattle.rules.specs.declared.Printed.TheVariants as printed
-use Rattle.rules.specs.declared.Written.TheVariants as written
+use Rattle.rules.specs.declared.Refusal.{Refusal}
 use Rattle.tally.specs.View.{view}
 use Rattle.tally.specs.declared.Tally.{Tally}
 use Rattle.tally.specs.declared.Outcome.{Outcome}
@@ -29,14 +27,14 @@ use Rattle.round_trip_theorems.specs.Statement.{full_card}
 
 -- a list is accepted, and the tally after it has lot, card and results of g
 pub record ComesBack (r : Listing) (g : Ledger) : Type 0 where
-  pub accepted : number_of r.refusal ≡ 0
+  pub accepted : number_in r.answer ≡ 0
   pub line : r.line ≡ 0
   pub same : view r.tally ≡ g
 
 -- a list was written, of so many bytes
-pub record IsWritten (w : Printed) : Type 0 where
+pub record IsWritten (w : Result ℕ Refusal) : Type 0 where
   pub bytes : ℕ
-  pub is : w ≡ printed.Length bytes
+  pub is : w ≡ Ok bytes
 
 -- ---- how long a list is
 -- the most bytes of a line, its end byte included: five digits, a comma, and six bytes of a percentage
@@ -68,24 +66,24 @@ pub record ListTrip : Type 0 where
   -- what the list writer's call laid down for t, read into a tally of the same lot and card that holds nothing: the call accepts it, and
   -- the tally after it has the lot, the card and the results of t
   pub back : (cs ds : Calls) (ns ms : List Answer) (t u : Tally) → Run cs ns t → Run ds ms u → ledger ds ≡ with_contents (ledger cs) none
-      → (κ₁ : Lft) (b : MutBor (List ℕ)) (n : ℕ) (a : MutBor (List ℕ)) → WriteListStep κ₁ t b (printed.Length n) a
+      → (κ₁ : Lft) (b : MutBor (List ℕ)) (n : ℕ) (a : MutBor (List ℕ)) → WriteListStep κ₁ t b (Ok n) a
       → (κ₂ : Lft) (list : Bor (List ℕ)) (r : Listing) → list.now ≡ take n a.now → ListStep κ₂ u list r → ComesBack r (ledger cs)
   -- the same into the tally that an open of this lot and card leaves, on any tally at all, once a lot is opened
   pub reopened : (cs : Calls) (ns : List Answer) (t : Tally) → Run cs ns t → 1 ≤ containers (ledger cs)
       → (u : Tally) (c : Card) (o : Outcome) → cut_to_rows c ≡ (ledger cs).card → OpenStep u (ledger cs).lot c o
-      → (κ₁ : Lft) (b : MutBor (List ℕ)) (n : ℕ) (a : MutBor (List ℕ)) → WriteListStep κ₁ t b (printed.Length n) a
+      → (κ₁ : Lft) (b : MutBor (List ℕ)) (n : ℕ) (a : MutBor (List ℕ)) → WriteListStep κ₁ t b (Ok n) a
       → (κ₂ : Lft) (list : Bor (List ℕ)) (r : Listing) → list.now ≡ take n a.now → ListStep κ₂ o.tally list r → ComesBack r (ledger cs)
   -- a list that is written has at most 13 bytes for each held result, none where nothing is held, and so at most 780
-  pub each : (cs : Calls) (ns : List Answer) (t : Tally) → Run cs ns t → (κ : Lft) (b : MutBor (List ℕ)) (n : ℕ) (a : MutBor (List ℕ)) → WriteListStep κ t b (printed.Length n) a → n ≤ line_bytes * held (ledger cs)
-  pub short : (cs : Calls) (ns : List Answer) (t : Tally) → Run cs ns t → (κ : Lft) (b : MutBor (List ℕ)) (n : ℕ) (a : MutBor (List ℕ)) → WriteListStep κ t b (printed.Length n) a → n ≤ longest_list
+  pub each : (cs : Calls) (ns : List Answer) (t : Tally) → Run cs ns t → (κ : Lft) (b : MutBor (List ℕ)) (n : ℕ) (a : MutBor (List ℕ)) → WriteListStep κ t b (Ok n) a → n ≤ line_bytes * held (ledger cs)
+  pub short : (cs : Calls) (ns : List Answer) (t : Tally) → Run cs ns t → (κ : Lft) (b : MutBor (List ℕ)) (n : ℕ) (a : MutBor (List ℕ)) → WriteListStep κ t b (Ok n) a → n ≤ longest_list
   -- and one has that length: each of these calls is accepted
   pub calls : (n : ℕ) → n ≤ most_held → (judge (listing n)).number ≡ 0
   pub long : length (list_of (ledger (listing most_held))) ≡ longest_list
   -- a buffer of 780 bytes is never short
-  pub room : (cs : Calls) (ns : List Answer) (t : Tally) → Run cs ns t → (κ : Lft) (b : MutBor (List ℕ)) (w : Printed) (a : MutBor (List ℕ)) → longest_list ≤ length b.now → WriteListStep κ t b w a → IsWritten w
+  pub room : (cs : Calls) (ns : List Answer) (t : Tally) → Run cs ns t → (κ : Lft) (b : MutBor (List ℕ)) (w : Result ℕ Refusal) (a : MutBor (List ℕ)) → longest_list ≤ length b.now → WriteListStep κ t b w a → IsWritten w
   -- by the definitions: a list that is accepted has at most 13 bytes a line, and at most 780
   pub lines : (g : Ledger) (s : List ℕ) → containers g ≤ widest → (list_on g s).number ≡ 0 → length s ≤ line_bytes * length (lines_of s)
   pub few : (g : Ledger) (s : List ℕ) → containers g ≤ widest → (list_on g s).number ≡ 0 → length s ≤ longest_list
   -- a call on the sheet of t, once a lot is opened, is the call on what t holds; and so on what the sheet writer's call laid down for t
   pub on_sheet : (cs : Calls) (ns : List Answer) (t : Tally) → Run cs ns t → 1 ≤ containers (ledger cs) → AsOnLedger (sheet_of (ledger cs)) (ledger cs)
-  pub on_written : (cs : Calls) (ns : List Answer) (t : Tally) → Run cs ns t → (κ : Lft) (b : MutBor (List ℕ)) (n : ℕ) (a : MutBor (List ℕ)) → WriteStep κ t b (written.Length n) a → AsOnLedger (take n a.now) (ledger cs)
+  pub on_written : (cs : Calls) (ns : List Answer) (t : Tally) → Run cs ns t → (κ : Lft) (b : MutBor (List ℕ)) (n : ℕ) (a : MutBor (List ℕ)) → WriteStep κ t b (Ok n) a → AsOnLedger (take n a.now) (ledger cs)

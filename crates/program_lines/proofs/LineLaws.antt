@@ -13,8 +13,7 @@ use Rattle.decimal.specs.Laying.{Laid, LaysAt, Fitting}
 use Rattle.decimal.proofs.LayingLaws.{laying_fits}
 use Rattle.buffers.specs.Counts.{IsPrefixLen}
 use Rattle.buffers.proofs.Counting.{prefix_len_of_le}
-use Rattle.program_words.specs.declared.Said.{Said}
-use Rattle.program_words.specs.declared.Said.TheVariants.{Usage, Refused, Value}
+use Rattle.program_words.specs.Saying.{Said, usage, refused, value}
 use Rattle.program_lines.specs.Lines.{line_places, ended, line_of, yes_or_no}
 
 length_ended : (t : List ℕ) → length (ended t) ≡ length t + 1
@@ -31,12 +30,12 @@ ended_fits t d e r h f =
 
 -- ---- a line in a buffer that holds it
 -- it has at most one byte more than the texts that it is made of
-line_most : (usage : List ℕ) (worded : ℕ → List ℕ) → length usage < line_places → ((v : ℕ) → length (worded v) < line_places) → (said : Said)
-    → length (line_of usage worded said) ≤ line_places
-line_most usage worded h w Usage = omega (arith, length_ended usage)
-line_most usage worded h w (Refused e) =
+line_most : (how : List ℕ) (worded : ℕ → List ℕ) → length how < line_places → ((v : ℕ) → length (worded v) < line_places) → (said : Said)
+    → length (line_of how worded said) ≤ line_places
+line_most how worded h w usage = omega (arith, length_ended how)
+line_most how worded h w (refused e) =
     omega (arith, length_ended (text "REFUSED " ++ decimal e), length-append (text "REFUSED ") (decimal e), length_decimal e)
-line_most usage worded h w (Value v) = omega (arith, length_ended (worded v), w v)
+line_most how worded h w (value v) = omega (arith, length_ended (worded v), w v)
 
 pub yes_or_no_most : (y n : List ℕ) → length y < line_places → length n < line_places → (v : ℕ) → length (yes_or_no y n v) < line_places
 yes_or_no_most y n p q v = by (eqb v 1)
@@ -53,9 +52,9 @@ line_whole t d e r h l =
     (record { count = omega (arith, x.count); text = x.text }, prefix_len_of_le r e (omega (arith, x.count)))
 
 -- the same of whatever is shown to be what is said
-pub line_answers : (usage : List ℕ) (worded : ℕ → List ℕ) (said : Said) {d e : List ℕ} {r : ℕ} → LaysAt (line_of usage worded said) 0 d e r
-    → line_places ≡ length d → length usage < line_places → ((v : ℕ) → length (worded v) < line_places)
-    → ((right : Said) → said ≡ right → Laid (line_of usage worded right) d e r) × (IsPrefixLen r e)
-line_answers usage worded said {d} {e} {r} l n h w =
-    let whole = line_whole (line_of usage worded said) d e r (omega (arith, line_most usage worded h w said)) l in
-    (λ right q. subst (λ (s : Said). Laid (line_of usage worded s) d e r) q whole.0, whole.1)
+pub line_answers : (how : List ℕ) (worded : ℕ → List ℕ) (said : Said) {d e : List ℕ} {r : ℕ} → LaysAt (line_of how worded said) 0 d e r
+    → line_places ≡ length d → length how < line_places → ((v : ℕ) → length (worded v) < line_places)
+    → ((right : Said) → said ≡ right → Laid (line_of how worded right) d e r) × (IsPrefixLen r e)
+line_answers how worded said {d} {e} {r} l n h w =
+    let whole = line_whole (line_of how worded said) d e r (omega (arith, line_most how worded h w said)) l in
+    (λ right q. subst (λ (s : Said). Laid (line_of how worded s) d e r) q whole.0, whole.1)

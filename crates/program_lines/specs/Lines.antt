@@ -2,8 +2,7 @@
 use Rattle.std.specs.Prelude.{List, ◌++◌, ℕ, eqb}
 use Rattle.rules.specs.Choice.{pick}
 use Rattle.rules.specs.Text.{text, decimal}
-use Rattle.program_words.specs.declared.Said.{Said}
-use Rattle.program_words.specs.declared.Said.TheVariants.{Usage, Refused, Value}
+use Rattle.program_words.specs.Saying.{Said, usage, refused, value}
 
 -- places for a line: each line of the three programs is shorter
 abbrev pub line_places : ℕ
@@ -19,9 +18,9 @@ refusal_line e = ended (text "REFUSED " ++ decimal e)
 
 -- The line of what is said: how the program is used, the refusal, or the value in the program's own words.
 abbrev pub line_of : List ℕ → (ℕ → List ℕ) → Said → List ℕ
-line_of usage worded Usage = ended usage
-line_of usage worded (Refused e) = refusal_line e
-line_of usage worded (Value v) = ended (worded v)
+line_of how worded usage = ended how
+line_of how worded (refused e) = refusal_line e
+line_of how worded (value v) = ended (worded v)
 
 -- the values 1 and 0 as words
 abbrev pub yes_or_no : List ℕ → List ℕ → ℕ → List ℕ

@@ -8,9 +8,7 @@ use Rattle.rules.specs.Tolerance.{label_of, pair_of}
 use Rattle.rules.specs.Mixing.{mixing_of}
 use Rattle.rules.specs.Decimals.{is_number, decimal_value}
 use Rattle.decimal_words.specs.Words.{word_of}
-use Rattle.program_words.specs.declared.Said.{Said}
-use Rattle.program_words.specs.declared.Said.TheVariants.{Usage}
-use Rattle.program_words.specs.Saying.{said_of, two_numbers, said_to_two}
+use Rattle.program_words.specs.Saying.{Said, usage, said_of, two_numbers, said_to_two}
 use Rattle.program_lines.specs.Lines.{line_of, yes_or_no}
 
 -- ---- lotsampling CONTAINERS KILOGRAMS: the number of primary samples
@@ -34,7 +32,7 @@ same (c ∷ v) (d ∷ w) = eqb c d && same v w
 abbrev pub said_to_kind : List ℕ → ℕ → ℕ → Said
 said_to_kind kind a b =
     pick (same kind (text "label")) (said_of (label_of a b))
-    (pick (same kind (text "pair")) (said_of (pair_of a b)) Usage)
+    (pick (same kind (text "pair")) (said_of (pair_of a b)) usage)
 
 unfoldable pub tolerance_prints : ℕ → List ℕ → List ℕ → List ℕ → List ℕ
 tolerance_prints arguments kind first second =
@@ -48,9 +46,9 @@ all_numbers (w ∷ ws) = is_number w && all_numbers ws
 
 -- to the words behind the program's name: a tolerated R, and a result in each word behind it
 unfoldable pub said_to_mixing : List (List ℕ) → Said
-said_to_mixing [] = Usage
+said_to_mixing [] = usage
 said_to_mixing (tolerated ∷ results) =
-    pick (all_numbers (tolerated ∷ results)) (said_of (mixing_of (map decimal_value results) (decimal_value tolerated))) Usage
+    pick (all_numbers (tolerated ∷ results)) (said_of (mixing_of (map decimal_value results) (decimal_value tolerated))) usage
 
 abbrev pub mixing_line : Said → List ℕ
 mixing_line said = line_of (text "usage: lotmixing TOLERATED X X ..") (yes_or_no (text "mixable") (text "not mixable")) said

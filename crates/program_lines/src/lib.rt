@@ -4,9 +4,10 @@
 ghost use Rattle.std.specs.Prelude.{◌++◌, ◌≤◌, length};
 ghost use Rattle.rules.specs.Text.{decimal};
 ghost use Rattle.decimal.specs.Laying.{LaysAt};
-ghost use Rattle.program_lines.specs.Lines.{ended, refusal_line, line_of, yes_or_no};
+ghost use Rattle.program_words.specs.Saying.{in_place_of_value, number_said, test_said};
+ghost use Rattle.program_lines.specs.Lines.{ended, line_of, yes_or_no};
 
-use program_words::Said;
+use program_words::Unsaid;
 
 // Places for a line.
 pub const LINE: usize = 128;
@@ -23,47 +24,51 @@ fn text_line(buf: &mut [u8], text: &[u8]) -> usize
 }
 
 // A number behind a text.
-fn numbered_line(buf: &mut [u8], text: &[u8], n: u32) -> usize
+fn numbered_line(buf: &mut [u8], text: &[u8], n: u64) -> usize
     requires { length text.now ≤ 8 }
     ensures { LaysAt (ended (text.now ++ decimal n)) 0 buf.old buf.new result }
 {
-    if buf.len() < text.len() + decimal::width(n as u64) + 1 {
+    if buf.len() < text.len() + decimal::width(n) + 1 {
         return 0;
     }
     let digits = decimal::bytes(buf, 0, text);
-    let end = decimal::number(buf, digits, n as u64);
+    let end = decimal::number(buf, digits, n);
     decimal::bytes(buf, end, b"\n")
 }
 
-// REFUSED 17
-fn refused_line(buf: &mut [u8], e: u32) -> usize
-    ensures { LaysAt (refusal_line e) 0 buf.old buf.new result }
+// How the program is used, or REFUSED 17.
+fn line_without_value(unsaid: Unsaid, usage: &[u8], buf: &mut [u8]) -> usize
+    ensures { LaysAt (line_of usage.now decimal (in_place_of_value unsaid)) 0 buf.old buf.new result }
 {
-    numbered_line(buf, b"REFUSED ", e)
-}
-
-// The line of what is said, a value as a number.
-pub fn number_line(said: Said, usage: &[u8], buf: &mut [u8]) -> usize
-    ensures { LaysAt (line_of usage.now decimal said) 0 buf.old buf.new result }
-{
-    match said {
-        Said::Usage => text_line(buf, usage),
-        Said::Refused(e) => refused_line(buf, e),
-        Said::Value(n) => numbered_line(buf, b"", n),
+    match unsaid {
+        Unsaid::Usage => text_line(buf, usage),
+        Unsaid::Refused(refusal) => numbered_line(buf, b"REFUSED ", u64::from(refusal.number())),
     }
 }
 
-// The line of what is said, the values 1 and 0 as words.
-pub fn verdict_line(said: Said, usage: &[u8], yes: &[u8], no: &[u8], buf: &mut [u8]) -> usize
-    ensures { LaysAt (line_of usage.now (yes_or_no yes.now no.now) said) 0 buf.old buf.new result }
+// The line of what is said, a value as a number.
+pub fn number_line(said: Result<u32, Unsaid>, usage: &[u8], buf: &mut [u8]) -> usize
+    ensures { LaysAt (line_of usage.now decimal (number_said said)) 0 buf.old buf.new result }
 {
     match said {
-        Said::Usage => text_line(buf, usage),
-        Said::Refused(e) => refused_line(buf, e),
-        Said::Value(v) => if v == 1 {
-            text_line(buf, yes)
-        } else {
-            text_line(buf, no)
-        },
+        Ok(n) => numbered_line(buf, b"", u64::from(n)),
+        Err(unsaid) => line_without_value(unsaid, usage, buf),
+    }
+}
+
+// The line of what is said, true and false as words.
+pub fn verdict_line(
+    said: Result<bool, Unsaid>,
+    usage: &[u8],
+    yes: &[u8],
+    no: &[u8],
+    buf: &mut [u8],
+) -> usize
+    ensures { LaysAt (line_of usage.now (yes_or_no yes.now no.now) (test_said said)) 0 buf.old buf.new result }
+{
+    match said {
+        Ok(true) => text_line(buf, yes),
+        Ok(false) => text_line(buf, no),
+        Err(unsaid) => line_without_value(unsaid, usage, buf),
     }
 }

@@ -1,4 +1,5 @@
 -- Sheets are read, and written back, so that lot, card and held results return unchanged. Assumes nothing.
+use Rattle.std.specs.Prelude.{Result, Ok, Err}
 use mathlib.Core.Path.{◌≡◌, refl, sym, ap, ◌∙◌}
 use mathlib.Core.List.{List}
 use Prim.Native.Nat.{ℕ, ◌≤◌}
@@ -6,14 +7,14 @@ use native.Mathlib.Omega.{arith}
 use native.Mathlib.Decide.{ℕ_discrete}
 use lib.ListN.{length, take}
 use borrow.Author.Tests.{eq-eqb, ne_eqb, eqb-false}
-use Rattle.rules.specs.Numbers.{TextAnswer, wrote, written_answer}
+use Rattle.rules.specs.Numbers.{TextAnswer, wrote, text_answer}
 use Rattle.rules.specs.Text.{laid_in}
 use Rattle.rules.specs.Lines.{lines_of}
 use Rattle.rules.specs.Ledger.{Ledger, containers}
 use Rattle.rules.specs.Reading.{accepted, read_of}
 use Rattle.rules.specs.Writing.{sheet_of, write_on}
-use Rattle.rules.specs.declared.Written.{Written}
-use Rattle.rules.specs.declared.Written.TheVariants as written
+use Rattle.rules.specs.declared.Refusal.{Refusal}
+use Rattle.rules.proofs.RefusalLaws.{never_zero}
 use Rattle.rules.proofs.TextLaws.{fits_is}
 use Rattle.reading_theorems.specs.Lengths.{longest_written}
 use Rattle.reading_theorems.proofs.Accepted.{refused_not, same_ledger, same_lines}
@@ -62,15 +63,14 @@ module _ (t : Tally) (d e : List ℕ) (r : ℕ) (s : Sound t) (q : wrote r e ≡
   no_longer = omega (arith, laid_length (sheet_of (view t)) d r e laid, written_few (view t) (sound_writable t s opened))
 
 -- a buffer with room for the longest sheet that is written is never short
-room_serves : (t : Tally) (d e : List ℕ) (w : Written) → Sound t → 1 ≤ t.lot.containers → longest_written ≤ length d → written_answer w e ≡ write_on (view t) d → WrittenAs w
+room_serves : (t : Tally) (d e : List ℕ) (w : Result ℕ Refusal) → Sound t → 1 ≤ t.lot.containers → longest_written ≤ length d → text_answer w e ≡ write_on (view t) d → WrittenAs w
 room_serves t d e w s h room q =
     let fits = written_few (view t) (sound_writable t s h) in
     by w (ap (λ (u : TextAnswer). u.number) (rw (ne_eqb t.lot.containers 0 (λ z. omega arith)) at q ∙ fits_is (sheet_of (view t)) d (omega arith)))
   where
-    by : (w : Written) → (written_answer w e).number ≡ 0 → WrittenAs w
-    by (written.Length n) z = record { bytes = n; is = refl }
-    by written.BadLot z = absurd (eqb-false 3 0 refl z)
-    by written.BufferShort z = absurd (eqb-false 16 0 refl z)
+    by : (w : Result ℕ Refusal) → (text_answer w e).number ≡ 0 → WrittenAs w
+    by (Ok n) z = record { bytes = n; is = refl }
+    by (Err f) z = absurd (never_zero f z)
 
 pub trip : Trip
 trip =

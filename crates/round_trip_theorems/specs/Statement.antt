@@ -1,6 +1,6 @@
 -- Sheets are read, and written back, so that lot, card and held results return unchanged (demand 2); and how long a sheet is. Each step
 -- is what the called function's own contract promises.
-use Rattle.std.specs.Prelude.{◌≡◌, List, [], ◌++◌, ℕ, zero, suc, ◌+◌, ◌≤◌, length, take, replicate}
+use Rattle.std.specs.Prelude.{◌≡◌, List, [], ◌++◌, ℕ, zero, suc, ◌+◌, ◌≤◌, length, take, replicate, Result, Ok}
 use base.Fml.{Lft}
 use Rattle.std.specs.Borrow.{Bor, MutBor}
 use Rattle.rules.specs.Limits.{most_held, least_reported, most_rows, least_factor, most_digits}
@@ -13,8 +13,7 @@ use Rattle.rules.specs.Writing.{ending, sheet_with, sheet_of}
 use Rattle.rules.specs.Printing.{printed_for}
 use Rattle.rules.specs.declared.Lot.{Lot}
 use Rattle.rules.specs.declared.Card.{Card}
-use Rattle.rules.specs.declared.Written.{Written}
-use Rattle.rules.specs.declared.Written.TheVariants.{Length}
+use Rattle.rules.specs.declared.Refusal.{Refusal}
 use Rattle.reading_theorems.specs.Lengths.{longest_written, longest_read}
 use Rattle.tally.specs.View.{view}
 use Rattle.tally.specs.declared.Tally.{Tally}
@@ -34,9 +33,9 @@ pub record Yields (sheet : List ℕ) (r : Reading) (g : Ledger) : Type 0 where
   pub same : view r.tally ≡ g
 
 -- what was written has so many bytes
-pub record WrittenAs (w : Written) : Type 0 where
+pub record WrittenAs (w : Result ℕ Refusal) : Type 0 where
   pub bytes : ℕ
-  pub is : w ≡ Length bytes
+  pub is : w ≡ Ok bytes
 
 -- ---- the longest sheet that is written
 -- a lot of 60 containers, and a card with a critical value for each N from 5 to 60 and with 96 rows
@@ -89,15 +88,15 @@ LastByteNeeded = printed_for (take (longest_read + most_digits) one_line_more) �
 pub record Trip : Type 0 where
   -- what the writer's call laid down for a tally that a list of calls ends with, one read from a sheet among them: the reader's call
   -- accepts it, and what it yields is the list's ledger
-  pub back : (cs : Calls) (ns : List Answer) (t : Tally) → Run cs ns t → (κ₁ : Lft) (b : MutBor (List ℕ)) (n : ℕ) (a : MutBor (List ℕ)) → WriteStep κ₁ t b (Length n) a
+  pub back : (cs : Calls) (ns : List Answer) (t : Tally) → Run cs ns t → (κ₁ : Lft) (b : MutBor (List ℕ)) (n : ℕ) (a : MutBor (List ℕ)) → WriteStep κ₁ t b (Ok n) a
       → (κ₂ : Lft) (sheet : Bor (List ℕ)) (r : Reading) → sheet.now ≡ take n a.now → ReadStep κ₂ sheet r → Yields sheet.now r (ledger cs)
   -- such a tally is written, in whatever order its results are stored, once a lot is opened and where the buffer has room for the
   -- longest sheet that is written
-  pub written : (cs : Calls) (ns : List Answer) (t : Tally) → Run cs ns t → 1 ≤ containers (ledger cs) → (κ : Lft) (b : MutBor (List ℕ)) (w : Written) (a : MutBor (List ℕ)) → longest_written ≤ length b.now → WriteStep κ t b w a → WrittenAs w
+  pub written : (cs : Calls) (ns : List Answer) (t : Tally) → Run cs ns t → 1 ≤ containers (ledger cs) → (κ : Lft) (b : MutBor (List ℕ)) (w : Result ℕ Refusal) (a : MutBor (List ℕ)) → longest_written ≤ length b.now → WriteStep κ t b w a → WrittenAs w
   -- by the definitions: what any sheet is read as, the sheet that is written of it is read as again
   pub again : (sheet : List ℕ) (g : Ledger) (lines : ℕ) → read_of sheet ≡ accepted g lines → ReadsAs (sheet_of g) g
   -- no sheet that is written is longer than 2,629 bytes
-  pub short : (cs : Calls) (ns : List Answer) (t : Tally) → Run cs ns t → (κ : Lft) (b : MutBor (List ℕ)) (n : ℕ) (a : MutBor (List ℕ)) → WriteStep κ t b (Length n) a → n ≤ longest_written
+  pub short : (cs : Calls) (ns : List Answer) (t : Tally) → Run cs ns t → (κ : Lft) (b : MutBor (List ℕ)) (n : ℕ) (a : MutBor (List ℕ)) → WriteStep κ t b (Ok n) a → n ≤ longest_written
   -- and one has that length: each of these calls is accepted, and the sheet of what they end with is accepted
   pub calls : (n : ℕ) → n ≤ most_held → (judge (filling n)).number ≡ 0
   pub long : length (sheet_of (ledger (filling most_held))) ≡ longest_written

@@ -7,6 +7,7 @@ pub returns : goal.returns
 returns c =
     let a = c.args in
     let d = c.divide-d.ensures in
-    let value = c.less-h.ensures ∙ h_value a.q _ a.offset c.requires d in
+    let less = rw c.from.ensures at c.less-h.ensures in
+    let value = less ∙ h_value a.q _ a.offset c.requires d in
     let verdict = c.verdict_of_h.ensures ∙ h_verdict a.q _ a.offset c.requires d a.critical in
     rw (value, verdict) refl

@@ -1,12 +1,7 @@
 -- `head_steps::head_step` meets its contract.
-use Rattle.std.proofs.Common.{[]}
-use Rattle.head_steps.specs.Promise.{lists_of}
+use borrow.Author.Rules.{rules}
 use Rattle.head_steps.proofs.head_step.Goals as goal
 
-pub returns-in-Critical : goal.returns-in-Critical
-returns-in-Critical c =
-    rw c.in-Critical.is (c.critical_step.ensures (lists_of [] _ _ _ _))
-
-pub returns-in-Range : goal.returns-in-Range
-returns-in-Range c =
-    rw c.in-Range.is (c.range_step.ensures (lists_of _ [] [] [] []))
+-- the card that the line of a lot leaves as it was
+pub returns-in-Lot : goal.returns-in-Lot
+returns-in-Lot c = search (rules, c.lot_step.ensures c.args.card.now)

@@ -1,9 +1,10 @@
--- `report_size::size` meets its contract. Assumes nothing.
-use Rattle.report_size.proofs.Lengths.{length_findings}
+-- `report_size::size` meets its contract: N is a number with no decimal places. Assumes nothing.
+use Rattle.std.proofs.Common.{arith}
+use Rattle.std.proofs.lemmas.Grind.{common_steps}
+use Rattle.rules.specs.Report.{count_line, mean_line, findings_text}
+use Rattle.rules.proofs.TextLaws.{pointed_none}
 use Rattle.report_size.proofs.size.Goals as goal
 
 pub returns : goal.returns
-returns c =
-    let count = c.number_size-count.ensures.0 in
-    rw (count, c.number_size.ensures.0, c.mark_size.ensures.0, c.value_size.ensures.0, c.value_size-2.ensures.0, c.lot_size.ensures.0)
-    (length_findings _)
+unfolding count_line mean_line findings_text
+returns c = grind (arith, common_steps, pointed_none)
