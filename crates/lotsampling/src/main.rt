@@ -5,21 +5,20 @@ ghost use Rattle.std.specs.Prelude.{◌≡◌, List, ℕ};
 ghost use Rattle.buffers.specs.Counts.{IsPrefixLen};
 ghost use Rattle.decimal.specs.Laying.{Laid};
 ghost use Rattle.program_words.specs.Given.{GivenAs};
-ghost use Rattle.program_words.specs.Saying.{said_to_two};
+ghost use Rattle.program_words.specs.Saying.{number_said, said_to_two};
 ghost use Rattle.program_lines.specs.Printing.{said_to_sampling, sampling_prints};
 
 use program_lines::LINE;
-use program_words::{Said, TwoNumbers, WORD};
+use program_words::{Unsaid, WORD};
 use std::io;
 
 // What is said to the words.
-fn said_to(words: TwoNumbers) -> Said
-    ensures { result ≡ said_to_two said_to_sampling words }
+#[tactic(auto, using(program_words::proofs::SayingLaws::refusal_said))]
+fn said_to(words: Option<(u32, u32)>) -> Result<u32, Unsaid>
+    ensures { number_said result ≡ said_to_two said_to_sampling words }
 {
-    let TwoNumbers::Given(k, c) = words else {
-        return Said::Usage;
-    };
-    program_words::said_of(answers::samples_answer(sampling::primary_samples(k, c)))
+    let (containers, kilograms) = words.ok_or(Unsaid::Usage)?;
+    Ok(sampling::primary_samples(containers, kilograms)?)
 }
 
 // The line to the words, which stand in the first `k` and `c` bytes of their buffers, and its length.
@@ -41,8 +40,8 @@ fn answer(
 }
 
 fn main(rt: HostRuntime) -> io::Result<()> {
-    let mut containers = program_words::word_buffer();
-    let mut kilograms = program_words::word_buffer();
+    let mut containers = buffers::zeroed::<WORD>();
+    let mut kilograms = buffers::zeroed::<WORD>();
     let mut line = [0u8; LINE];
     let k = buffers::word(&rt, 1, &mut containers);
     let c = buffers::word(&rt, 2, &mut kilograms);

@@ -5,34 +5,26 @@ ghost use Rattle.std.specs.Prelude.{◌≡◌, List, ℕ};
 ghost use Rattle.buffers.specs.Counts.{IsPrefixLen};
 ghost use Rattle.decimal.specs.Laying.{Laid};
 ghost use Rattle.program_words.specs.Given.{GivenAs};
-ghost use Rattle.program_words.specs.Saying.{said_to_two};
+ghost use Rattle.program_words.specs.Saying.{said_to_two, test_said};
 ghost use Rattle.program_lines.specs.Printing.{said_to_kind, tolerance_prints};
 
 use program_lines::LINE;
-use program_words::{Said, TwoNumbers, WORD};
+use program_words::{Unsaid, WORD};
 use std::io;
 
-// What is said to two numbers.
-fn said_to_kind(kind: &[u8], a: u32, b: u32) -> Said
-    ensures { result ≡ said_to_kind kind.now a b }
+// What is said to the words.
+#[tactic(auto, using(program_words::proofs::SayingLaws::refusal_said, program_lines::proofs::SameLaws::same_is))]
+fn said_to(kind: &[u8], words: Option<(u32, u32)>) -> Result<bool, Unsaid>
+    ensures { test_said result ≡ said_to_two (said_to_kind kind.now) words }
 {
+    let (a, b) = words.ok_or(Unsaid::Usage)?;
     if kind == b"label".as_slice() {
-        return program_words::said_of(answers::tolerance_answer(tolerance::label(a, b)));
+        return Ok(tolerance::label(a, b)?);
     }
     if kind == b"pair".as_slice() {
-        return program_words::said_of(answers::tolerance_answer(tolerance::pair(a, b)));
+        return Ok(tolerance::pair(a, b)?);
     }
-    Said::Usage
-}
-
-// What is said to the words.
-fn said_to(kind: &[u8], words: TwoNumbers) -> Said
-    ensures { result ≡ said_to_two (said_to_kind kind.now) words }
-{
-    let TwoNumbers::Given(a, b) = words else {
-        return Said::Usage;
-    };
-    said_to_kind(kind, a, b)
+    Err(Unsaid::Usage)
 }
 
 // The line to the words, which stand in the first `k`, `a` and `b` bytes of their buffers, and its length.
@@ -63,9 +55,9 @@ fn answer(
 }
 
 fn main(rt: HostRuntime) -> io::Result<()> {
-    let mut kind = program_words::word_buffer();
-    let mut first = program_words::word_buffer();
-    let mut second = program_words::word_buffer();
+    let mut kind = buffers::zeroed::<WORD>();
+    let mut first = buffers::zeroed::<WORD>();
+    let mut second = buffers::zeroed::<WORD>();
     let mut line = [0u8; LINE];
     let k = buffers::word(&rt, 1, &mut kind);
     let a = buffers::word(&rt, 2, &mut first);

@@ -1,5 +1,6 @@
 use Rattle.std.proofs.Common.{rules, arith}
 use Rattle.rules.specs.Text.{text}
+use Rattle.program_words.specs.Saying.{test_said}
 use Rattle.program_lines.specs.Lines.{yes_or_no}
 use Rattle.program_lines.specs.Printing.{tolerance_prints}
 use Rattle.program_lines.proofs.LineLaws.{yes_or_no_most, line_answers}
@@ -9,6 +10,6 @@ pub returns-clause-by_index : goal.returns-clause-by_index
 unfolding tolerance_prints
 returns-clause-by_index c =
     let line = line_answers (text "usage: lottolerance label LABELLED FOUND, or lottolerance pair FIRST SECOND") (yes_or_no (text "within") (text "out"))
-    c.said_to-said.result c.verdict_line.ensures (search rules) (omega arith) (yes_or_no_most (text "within") (text "out") (omega arith) (omega arith)) in
+    (test_said c.said_to-said.result) c.verdict_line.ensures (search rules) (omega arith) (yes_or_no_most (text "within") (text "out") (omega arith) (omega arith)) in
     λ u v w f g h. line.0 _
     (rw (c.word-u.ensures.by_index u f, c.two_numbers.ensures, c.word-v.ensures.by_index v g, c.word-w.ensures.by_index w h) at c.said_to-said.ensures)
