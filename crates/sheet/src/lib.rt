@@ -8,13 +8,12 @@ ghost use Rattle.rules.specs.Reading.{refused as Reading·refused, read_of};
 ghost use Rattle.rules.specs.declared.Card.{Card};
 ghost use Rattle.tally.specs.View.{tally_of};
 ghost use Rattle.tally.specs.Calls.{Sound};
-ghost use Rattle.head_steps.specs.Promise.{lists_of};
 ghost use Rattle.result_steps.specs.Promise.{at_results, opened_state};
 ghost use Rattle.sheet.specs.Promise.{ReadAs, Starts, read_rest, read_opened, HeadLinesAre, ResultLinesAre};
 
-use head_steps::{HeadLine, Progress};
-use result_steps::{ResultLine, Results};
-use rules::{CRITICALS, Card, Lot, MOST_HELD, MOST_ROWS, Refusal, Stage};
+use head_steps::Progress;
+use result_steps::Results;
+use rules::{CRITICALS, Card, Head, Lot, MOST_HELD, MOST_ROWS, Refusal, Stage};
 use tally::Tally;
 
 #[derive(Clone, Copy)]
@@ -41,53 +40,51 @@ fn refused(e: Refusal, line: usize) -> Reading
     }
 }
 
-// What the lines of lot and card come to.
+// A faulty line, or the sheet's end, with the line.
 #[derive(Clone, Copy)]
-enum HeadLines {
-    // the results begin: what was read, and the place and the number of the line with which they do
-    Results(Progress, usize, usize),
-    // a faulty line, or the sheet's end, with the line
-    Refused(Refusal, usize),
+struct LineFault {
+    refusal: Refusal,
+    line: usize,
+}
+
+// The results begin: what was read before them, and the place and the number of the line with which they do.
+#[derive(Clone, Copy)]
+struct Begin {
+    progress: Progress,
+    at: usize,
+    line: usize,
 }
 
 // The lines of lot and card, from the start of the sheet on.
-fn take_head(
-    sheet: &[u8],
-    critical: &mut [u32; CRITICALS],
-    lowest: &mut [u16; MOST_ROWS],
-    highest: &mut [u16; MOST_ROWS],
-    bound: &mut [u16; MOST_ROWS],
-    tolerated: &mut [u16; MOST_ROWS],
-) -> HeadLines
-    ensures { HeadLinesAre sheet.now (lists_of critical.old lowest.old highest.old bound.old tolerated.old) result (lists_of critical.new lowest.new highest.new bound.new tolerated.new) }
+fn take_head(sheet: &[u8], card: &mut Card) -> Result<Begin, LineFault>
+    ensures { HeadLinesAre sheet.now card.old result card.new }
 {
-    let mut p = head_steps::start();
+    let mut progress = head_steps::start();
     let mut line: usize = 1;
     let mut at: usize = 0;
     while at < sheet.len() {
         let head_line = frames::line_at(sheet, at);
-        let frame = head_line.frame;
-        let step = head_steps::head_step(p, critical, lowest, highest, bound, tolerated, frame);
-        match step {
-            HeadLine::Taken(next) => {
-                p = next;
+        match head_steps::head_step(progress, card, head_line.frame) {
+            Ok(Some(next)) => {
+                progress = next;
                 line += 1;
                 at = head_line.end + 1;
             }
-            HeadLine::Results => return HeadLines::Results(p, at, line),
-            HeadLine::Refused(e) => return HeadLines::Refused(e, line),
+            Ok(None) => return Ok(Begin { progress, at, line }),
+            Err(refusal) => return Err(LineFault { refusal, line }),
         }
     }
-    HeadLines::Refused(Refusal::OutOfTurn, line)
+    Err(LineFault {
+        refusal: Refusal::OutOfTurn,
+        line,
+    })
 }
 
-// What the lines of results come to.
+// The sheet ends with 06: how many are held, and the number of lines.
 #[derive(Clone, Copy)]
-enum ResultLines {
-    // the sheet ends with 06: how many are held, and the number of lines
-    Ended(usize, usize),
-    // a faulty line, or the sheet's end, with the line
-    Refused(Refusal, usize),
+struct Ended {
+    held: usize,
+    lines: usize,
 }
 
 // The lines from `at` on, the first of which has this number, once the lot is opened.
@@ -98,7 +95,7 @@ fn take_results(
     lot: Lot,
     containers: &mut [u16; MOST_HELD],
     results: &mut [u16; MOST_HELD],
-) -> ResultLines
+) -> Result<Ended, LineFault>
     requires { Starts sheet.now at line }
     ensures { (c : Card) (last : ℕ) → Sound (tally_of lot c containers.old results.old 0) → ResultLinesAre (read_rest sheet.now at (opened_state lot c last at_results containers.old results.old) line) lot c result containers.new results.new }
 {
@@ -110,22 +107,26 @@ fn take_results(
     let mut line = line;
     while at < sheet.len() {
         let result_line = frames::line_at(sheet, at);
-        let frame = result_line.frame;
-        let step = result_steps::result_step(p, lot, containers, results, frame);
-        match step {
-            ResultLine::Taken(next) => {
+        match result_steps::result_step(p, lot, containers, results, result_line.frame) {
+            Ok(next) => {
                 p = next;
                 line += 1;
                 at = result_line.end + 1;
             }
-            ResultLine::Refused(e) => return ResultLines::Refused(e, line),
+            Err(refusal) => return Err(LineFault { refusal, line }),
         }
     }
     let stage = p.stage;
     if stages::is_ended(stage) {
-        return ResultLines::Ended(p.held, line - 1);
+        return Ok(Ended {
+            held: p.held,
+            lines: line - 1,
+        });
     }
-    ResultLines::Refused(Refusal::OutOfTurn, line)
+    Err(LineFault {
+        refusal: Refusal::OutOfTurn,
+        line,
+    })
 }
 
 // The lot is opened where the line at `at` starts, and the results follow.
@@ -133,25 +134,23 @@ fn read_results(sheet: &[u8], at: usize, line: usize, lot: Lot, card: Card) -> R
     requires { Starts sheet.now at line }
     ensures { (last : ℕ) → ReadAs (read_opened sheet.now at lot card last line) result }
 {
-    let e = tally::open_refusal(lot, card);
-    if e.number() != 0 {
-        return refused(e, line);
+    if let Err(refusal) = tally::check_open(lot, card) {
+        return refused(refusal, line);
     }
     let mut containers: [u16; MOST_HELD] = [0; MOST_HELD];
     let mut results: [u16; MOST_HELD] = [0; MOST_HELD];
-    let result_lines = take_results(sheet, at, line, lot, &mut containers, &mut results);
-    match result_lines {
-        ResultLines::Ended(held, lines) => Reading {
+    match take_results(sheet, at, line, lot, &mut containers, &mut results) {
+        Ok(Ended { held, lines }) => Reading {
             answer: Answer::Accepted(lines),
             tally: Tally {
-                lot: lot,
-                card: card,
-                containers: containers,
-                results: results,
-                held: held,
+                lot,
+                card,
+                containers,
+                results,
+                held,
             },
         },
-        ResultLines::Refused(e, line) => refused(e, line),
+        Err(fault) => refused(fault.refusal, fault.line),
     }
 }
 
@@ -159,34 +158,24 @@ fn read_results(sheet: &[u8], at: usize, line: usize, lot: Lot, card: Card) -> R
 pub fn read(sheet: &[u8]) -> Reading
     ensures { ReadAs (read_of sheet.now) result }
 {
-    let mut critical: [u32; CRITICALS] = [0; CRITICALS];
-    let mut lowest: [u16; MOST_ROWS] = [0; MOST_ROWS];
-    let mut highest: [u16; MOST_ROWS] = [0; MOST_ROWS];
-    let mut bound: [u16; MOST_ROWS] = [0; MOST_ROWS];
-    let mut tolerated: [u16; MOST_ROWS] = [0; MOST_ROWS];
-    let head_lines = take_head(
-        sheet,
-        &mut critical,
-        &mut lowest,
-        &mut highest,
-        &mut bound,
-        &mut tolerated,
-    );
-    match head_lines {
-        HeadLines::Results(p, at, line) => {
-            let lot = p.lot;
-            let head = p.head;
-            let card = Card {
-                head: head,
-                critical: critical,
-                rows: p.rows,
-                lowest: lowest,
-                highest: highest,
-                bound: bound,
-                tolerated: tolerated,
-            };
-            read_results(sheet, at, line, lot, card)
+    let mut card = Card {
+        head: Head {
+            factor: 0,
+            offset: 0,
+            seeds: 0,
+        },
+        critical: [0; CRITICALS],
+        rows: 0,
+        lowest: [0; MOST_ROWS],
+        highest: [0; MOST_ROWS],
+        bound: [0; MOST_ROWS],
+        tolerated: [0; MOST_ROWS],
+    };
+    match take_head(sheet, &mut card) {
+        Ok(begin) => {
+            let lot = begin.progress.lot;
+            read_results(sheet, begin.at, begin.line, lot, card)
         }
-        HeadLines::Refused(e, line) => refused(e, line),
+        Err(fault) => refused(fault.refusal, fault.line),
     }
 }

@@ -4,10 +4,10 @@ use Rattle.rules.specs.Reading.{read_of}
 use Rattle.sheet.proofs.Following.{read_as}
 use Rattle.sheet.proofs.read.Goals as goal
 
-pub returns-in-Results : goal.returns-in-Results
+pub returns-in-Ok : goal.returns-in-Ok
 unfolding read_of
-returns-in-Results c = read_as (c.read_results.ensures _) (sym c.in-Results.ensures.right)
+returns-in-Ok c = read_as (c.read_results.ensures _) (sym c.in-Ok.ensures.right)
 
-pub returns-in-Refused : goal.returns-in-Refused
+pub returns-in-Err : goal.returns-in-Err
 unfolding read_of
-returns-in-Refused c = read_as c.refused.ensures (sym c.in-Refused.ensures)
+returns-in-Err c = read_as c.refused.ensures (sym c.in-Err.ensures)

@@ -7,38 +7,41 @@ use Rattle.sheet.proofs.take_head.Goals as goal
 pub loop-at-init : goal.loop-at-init
 unfolding read_rest
 loop-at-init c =
-    (record { within = omega arith; first = omega arith; few = omega arith }, rw c.start-p.ensures refl, rw c.start-p.ensures refl)
+    (record { within = omega arith; first = omega arith; few = omega arith }, rw c.start-progress.ensures refl, rw c.start-progress.ensures refl)
 
 pub overflow_add-at : goal.overflow_add-at
 overflow_add-at c =
-    let next = line_next c.loop-at.invariant.0 c.loop-at-test.true c.line_at-head_line.ensures (taken_frame _ _ c.in-Taken.ensures.right) in
+    let taken = rw c.in-Ok-Some.field-0-is at c.in-Ok-Some.ensures in
+    let next = line_next c.loop-at.invariant.0 c.loop-at-test.true c.line_at-head_line.ensures (taken_frame _ _ taken.right) in
     omega (arith, next.0.within)
 
 pub loop-at-smaller : goal.loop-at-smaller
 loop-at-smaller c =
-    let next = line_next c.loop-at.invariant.0 c.loop-at-test.true c.line_at-head_line.ensures (taken_frame _ _ c.in-Taken.ensures.right) in
+    let taken = rw c.in-Ok-Some.field-0-is at c.in-Ok-Some.ensures in
+    let next = line_next c.loop-at.invariant.0 c.loop-at-test.true c.line_at-head_line.ensures (taken_frame _ _ taken.right) in
     omega (arith, next.0.within, next.1)
 
 pub loop-at-preserved : goal.loop-at-preserved
 loop-at-preserved c =
     let loop = c.loop-at in
-    let taken = c.in-Taken.ensures in (
+    let taken = rw c.in-Ok-Some.field-0-is at c.in-Ok-Some.ensures in (
       (line_next loop.invariant.0 c.loop-at-test.true c.line_at-head_line.ensures (taken_frame _ _ taken.right)).0,
       taken.unopened,
       line_comes loop.invariant.0 c.loop-at-test.true c.line_at-head_line.ensures _ loop.invariant.2 taken.right,
     )
 
-pub returns-in-Results : goal.returns-in-Results
-returns-in-Results c =
+pub returns-in-Ok-None : goal.returns-in-Ok-None
+returns-in-Ok-None c =
     let loop = c.loop-at in
-    results_follow loop.invariant.0 c.loop-at-test.true c.line_at-head_line.ensures _ _ _ loop.invariant.2 loop.invariant.1 c.in-Results.ensures
+    let ends = rw c.in-Ok-None.field-0-is at c.in-Ok-None.ensures in
+    results_follow loop.invariant.0 c.loop-at-test.true c.line_at-head_line.ensures _ _ _ loop.invariant.2 loop.invariant.1 ends
 
-pub returns-in-Refused : goal.returns-in-Refused
-returns-in-Refused c =
+pub returns-in-Err : goal.returns-in-Err
+returns-in-Err c =
     let loop = c.loop-at in
-    line_comes loop.invariant.0 c.loop-at-test.true c.line_at-head_line.ensures _ loop.invariant.2 c.in-Refused.ensures.right
+    line_comes loop.invariant.0 c.loop-at-test.true c.line_at-head_line.ensures _ loop.invariant.2 c.in-Err.ensures.right
 
 pub returns : goal.returns
 returns c =
     let loop = c.loop-at in
-    loop.invariant.2 ∙ rest_none loop.invariant.0 c.loop-at-test.false _ false (unended loop.p.stage loop.invariant.1)
+    loop.invariant.2 ∙ rest_none loop.invariant.0 c.loop-at-test.false _ false (unended loop.progress.stage loop.invariant.1)
