@@ -84,6 +84,7 @@ pub extern "C" fn gelvorin_judge(sheet: &[u8], buf: &mut [u8]) -> u64
 
 // Reads a sheet and writes it back: the frames in their order, the results in ascending container order.
 #[unsafe(no_mangle)]
+#[tactic(auto, using(codes::proofs::CodeLaws::code_laws))]
 pub extern "C" fn gelvorin_rewrite(sheet: &[u8], buf: &mut [u8]) -> u64
     ensures { code_and_bytes result buf.new ≡ rewrite_on sheet.now buf.old }
 {
