@@ -1,12 +1,10 @@
 -- An answer as one number, for a host program.
-use Rattle.std.specs.Prelude.{ℕ, ◌+◌, ◌*◌, min, eqb}
+use Rattle.std.specs.Prelude.{ℕ, ◌+◌, ◌*◌, min, eqb, Result, Ok, Err}
 use Rattle.rules.specs.Choice.{pick}
 use Rattle.rules.specs.Limits.{widest}
-use Rattle.rules.specs.Numbers.{number_of}
-use Rattle.rules.specs.declared.Answered.{Answered}
-use Rattle.rules.specs.declared.TextSize.{TextSize}
-use Rattle.rules.specs.declared.OnSheet.{OnSheet}
-use Rattle.rules.specs.declared.OnSheet.TheVariants as on-sheet
+use Rattle.rules.specs.Numbers.{number_of, Answered, TextSize}
+use Rattle.rules.specs.OnSheets.{file_of, line_of}
+use Rattle.rules.specs.declared.Fault.{Fault}
 
 -- the first number of more than 32 bits, and a refusal's number
 abbrev pub refusal_code : ℕ → ℕ
@@ -29,11 +27,7 @@ size_code s = code_of s.number s.size
 abbrev pub fault_code : ℕ → ℕ → ℕ → ℕ
 fault_code e file line = refusal_code e + 256 * file + 65536 * line
 
--- number 0 is no refusal
-unfoldable pub fault_code_of : ℕ → ℕ → ℕ → ℕ
-fault_code_of number file line = pick (eqb number 0) 0 (fault_code number file line)
-
 -- the length of the sheet after the call, or the refusal, with a line of at most 16 bits
-abbrev pub call_code_of : OnSheet → ℕ
-call_code_of (on-sheet.Length n) = n
-call_code_of (on-sheet.Refused e file line) = fault_code_of (number_of e) file (min line widest)
+abbrev pub call_code_of : Result ℕ Fault → ℕ
+call_code_of (Ok n) = n
+call_code_of (Err f) = fault_code (number_of f.refusal) (file_of f.place) (min (line_of f.place) widest)

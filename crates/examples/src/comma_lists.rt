@@ -1,26 +1,26 @@
 // Sheets and comma lists from files, each held against what lotenter or lotlist must print.
 use crate::{files, texts};
-use rules::{OnSheet, Printed};
+use rules::Refusal;
 use sheet::Answer;
 use std::rt::Files;
 
 // The list of a sheet's results, or the line of its first fault.
-fn list_of(sheet: &[u8], buf: &mut [u8]) -> Printed {
+fn list_of(sheet: &[u8], buf: &mut [u8]) -> Result<usize, Refusal> {
     let reading = sheet::read(sheet);
-    let answer = reading.answer;
-    let t = reading.tally;
-    match answer {
+    match reading.answer {
         Answer::Refused(e, line) => refusal_lines::print_refused(buf, e, line),
-        Answer::Accepted(_) => list_writer::write_list(t, buf),
+        Answer::Accepted(_) => list_writer::write_list(reading.tally, buf),
     }
 }
 
 // The sheet with a list entered, or the line of the first fault.
-fn enter(sheet: &[u8], list: &[u8], buf: &mut [u8]) -> Printed {
-    let outcome = sheet_calls::enter_list(sheet, list, buf);
-    match outcome {
-        OnSheet::Length(n) => Printed::Length(n),
-        OnSheet::Refused(e, file, line) => refusal_lines::print_fault(buf, e, file, line),
+fn enter(sheet: &[u8], list: &[u8], buf: &mut [u8]) -> Result<usize, Refusal> {
+    match sheet_calls::enter_list(sheet, list, buf) {
+        Ok(size) => Ok(size),
+        Err(fault) => {
+            let (file, line) = (fault.place.file(), fault.place.line());
+            refusal_lines::print_fault(buf, fault.refusal, file, line)
+        }
     }
 }
 

@@ -13,7 +13,7 @@ fn judged_as(sheet: &[u8], expected: &[u8], buf: &mut [u8]) -> bool {
 
 // The same, and of the bytes that lotreport would read of it.
 fn decided_as(sheet: &[u8], expected: &[u8], buf: &mut [u8]) -> bool {
-    let read = checks::least(sheet.len(), READ);
+    let read = sheet.len().min(READ);
     judged_as(sheet, expected, buf) & judged_as(&sheet[0..read], expected, buf)
 }
 

@@ -44,7 +44,7 @@ fn passed_by_eights(l: &[u16; MOST_HELD], end: usize, k: u16) -> usize
 pub fn place_of(l: &[u16; MOST_HELD], n: usize, k: u16) -> usize
     ensures { FoundAt l.now (min n most_held) k result }
 {
-    let end = checks::least(n, MOST_HELD);
+    let end = n.min(MOST_HELD);
     let mut i = passed_by_eights(l, end, k);
     while i < end {
         if l[i] == k {
@@ -60,7 +60,7 @@ pub fn place_of(l: &[u16; MOST_HELD], n: usize, k: u16) -> usize
 pub fn is_held(l: &[u16; MOST_HELD], n: usize, k: u16) -> bool
     ensures { (vs : List ℕ) → result ≡ is_held (stored l.now vs (min n most_held) k) }
 {
-    let end = checks::least(n, MOST_HELD);
+    let end = n.min(MOST_HELD);
     let mut found = false;
     let mut place = 0;
     while place < end {
@@ -74,11 +74,11 @@ pub fn is_held(l: &[u16; MOST_HELD], n: usize, k: u16) -> bool
 pub fn meet(l: &[u16; MOST_HELD], n: usize, o: &[u16; MOST_HELD], m: usize) -> bool
     ensures { (vs : List ℕ) → result ≡ meets (stored l.now vs (min n most_held)) o.now (min m most_held) }
 {
-    let end = checks::least(m, MOST_HELD);
+    let end = m.min(MOST_HELD);
     let mut found = false;
     let mut j = 0;
     while j < end {
-        found = checks::either(found, is_held(l, n, o[j]));
+        found = found | is_held(l, n, o[j]);
         j += 1;
     }
     found
@@ -96,14 +96,14 @@ pub fn widened(x: u16) -> u32
 pub fn range_of(results: &[u16; MOST_HELD], n: usize) -> Range
     ensures { RangeRead results.now (min n most_held) result }
 {
-    let held = checks::least(n, MOST_HELD);
+    let held = n.min(MOST_HELD);
     let mut smallest = WIDEST;
     let mut largest = 0;
     let mut read = 0;
     while read < held {
         let x = widened(results[read]);
-        smallest = checks::smaller(smallest, x);
-        largest = checks::larger(largest, x);
+        smallest = smallest.min(x);
+        largest = largest.max(x);
         read += 1;
     }
     Range {
@@ -125,7 +125,7 @@ pub fn lay_behind(
 ) -> usize
     ensures { LaidBehind containers.old results.old held more.now values.now m result containers.new results.new }
 {
-    let end = checks::least(m, MOST_HELD - checks::least(held, MOST_HELD));
+    let end = m.min(MOST_HELD - held.min(MOST_HELD));
     let mut at = held;
     let mut from = 0;
     while from < end {

@@ -4,22 +4,32 @@ ghost use Rattle.std.specs.Prelude.{◌≤◌, length};
 
 use crate::widths::{REPORT, WRITE_LIST};
 use crate::{numbers, opening};
-use rules::{Pans, TextSize};
+use rules::{Pans, Refusal};
 use tally::Tally;
+
+// The number of an answer without a value: that of its refusal, or 0.
+fn number_in(answer: Result<(), Refusal>) -> u32 {
+    match answer {
+        Ok(()) => 0,
+        Err(refusal) => refusal.number(),
+    }
+}
+
+fn lay_answer(buf: &mut [u8], at: usize, answer: Result<(), Refusal>) {
+    numbers::lay(buf, at, number_in(answer) as usize);
+}
 
 pub fn opened(t: Tally, call: &[u8], buf: &mut [u8], at: usize) -> Tally
     requires { 1026 ≤ length call.now }
 {
     let outcome = tally::open(t, opening::lot_of(call), opening::card_of(call));
-    let refusal = outcome.refusal;
-    numbers::lay(buf, at, refusal.number() as usize);
+    lay_answer(buf, at, outcome.answer);
     outcome.tally
 }
 
 pub fn entered(t: Tally, container: u16, x: u16, buf: &mut [u8], at: usize) -> Tally {
     let outcome = tally::enter(t, container, x);
-    let refusal = outcome.refusal;
-    numbers::lay(buf, at, refusal.number() as usize);
+    lay_answer(buf, at, outcome.answer);
     outcome.tally
 }
 
@@ -31,22 +41,19 @@ pub fn weighed(t: Tally, call: &[u8], buf: &mut [u8], at: usize) -> Tally
         remainder: weights::float(numbers::four(call, 10)),
     };
     let outcome = tally::weigh(t, numbers::two(call, 2), numbers::two(call, 4), pans);
-    let refusal = outcome.refusal;
-    numbers::lay(buf, at, refusal.number() as usize);
+    lay_answer(buf, at, outcome.answer);
     outcome.tally
 }
 
 pub fn withdrawn(t: Tally, container: u16, buf: &mut [u8], at: usize) -> Tally {
     let outcome = tally::withdraw(t, container);
-    let refusal = outcome.refusal;
-    numbers::lay(buf, at, refusal.number() as usize);
+    lay_answer(buf, at, outcome.answer);
     outcome.tally
 }
 
 pub fn joined(t: Tally, other: Tally, buf: &mut [u8], at: usize) -> Tally {
     let outcome = tally::join(t, other);
-    let refusal = outcome.refusal;
-    numbers::lay(buf, at, refusal.number() as usize);
+    lay_answer(buf, at, outcome.answer);
     outcome.tally
 }
 
@@ -63,20 +70,17 @@ fn lay_three(buf: &mut [u8], at: usize, number: u32, more: usize) {
 // Of a comma list: the number, and the line of its refusal.
 pub fn listed(t: Tally, list: &[u8], buf: &mut [u8], at: usize) -> Tally {
     let outcome = list_reader::read_list(t, list);
-    let refusal = outcome.refusal;
-    lay_three(buf, at, refusal.number(), outcome.line);
+    lay_three(buf, at, number_in(outcome.answer), outcome.line);
     outcome.tally
 }
 
 // A report, a comma list or, for any other kind, a sheet.
-fn text_of(t: Tally, kind: u8, lent: &mut [u8]) -> TextSize {
-    if kind == REPORT {
-        return answers::reported_size(report::report(t, lent));
+fn text_of(t: Tally, kind: u8, lent: &mut [u8]) -> Result<usize, Refusal> {
+    match kind {
+        REPORT => report::report(t, lent),
+        WRITE_LIST => list_writer::write_list(t, lent),
+        _ => writer::write(t, lent),
     }
-    if kind == WRITE_LIST {
-        return answers::printed_size(list_writer::write_list(t, lent));
-    }
-    answers::written_size(writer::write(t, lent))
 }
 
 // The number, the two bytes of the length, and the buffer that is lent: `room` bytes.
@@ -90,6 +94,8 @@ pub fn texted(t: Tally, kind: u8, buf: &mut [u8], at: usize, room: usize) {
     if room < 3 {
         return;
     }
-    let text = text_of(t, kind, &mut buf[at + 3..at + room]);
-    lay_three(buf, at, text.number, text.size);
+    match text_of(t, kind, &mut buf[at + 3..at + room]) {
+        Ok(size) => lay_three(buf, at, 0, size),
+        Err(refusal) => lay_three(buf, at, refusal.number(), 0),
+    }
 }

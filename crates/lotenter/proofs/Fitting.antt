@@ -29,8 +29,7 @@ use Rattle.rules.proofs.ListLaws.{line_step, lines_go, lines_stop, lines_over}
 use Rattle.reading_theorems.specs.Spelling.{Entry, Made, opens, enters}
 use Rattle.reading_theorems.proofs.Accepted.{accepted_sheet}
 use Rattle.reading_theorems.proofs.Spelt.{sheet_made}
-use Rattle.writer.specs.Promise.{is_filled, filled}
-use Rattle.writer.proofs.Counting.{counted_most}
+use Rattle.writer.proofs.Counting.{filled_within}
 use Rattle.writer.proofs.Lengths.{sheet_length}
 
 -- a ledger of an opened lot, with no more rows and results than there are places for
@@ -84,14 +83,9 @@ unfolding list_on
 list_placed g list p z = lines_placed g _ g 0 p z
 
 -- ---- it is written
-filled_most : (l : List ℕ) (n : ℕ) → filled l n ≤ n
-unfolding filled
-filled_most l zero = omega arith
-filled_most l (suc n) = omega (arith, filled_most l n, counted_most (is_filled (get_or l n 0)))
-
 pub sheet_most : (g : Ledger) → Placed g → (1 ≤ length (sheet_of g)) × (length (sheet_of g) ≤ 4096)
 sheet_most g p =
-    let few = filled_most g.card.critical criticals in
+    let few = filled_within g.card.critical criticals in
     (omega (arith, sheet_length g), omega (arith, sheet_length g, few, p.rows, p.small))
 
 pub written_is : (g : Ledger) (d : List ℕ) → Placed g → 4096 ≤ length d → write_on g d ≡ wrote (length (sheet_of g)) (laid (sheet_of g) d)

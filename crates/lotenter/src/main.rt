@@ -11,7 +11,6 @@ ghost use Rattle.lotenter.specs.Entering.{entered_part, ShowsEntered};
 
 use program_input::SHEET;
 use program_words::WORD;
-use rules::OnSheet;
 use std::io;
 use std::rt::{Env, Files};
 
@@ -53,13 +52,11 @@ fn enter_lines(sheet: &[u8], lines: &[u8], whole: bool, text: &mut [u8]) -> usiz
     ensures { ShowsEntered sheet.now lines.now whole text.old text.new result }
 {
     match sheet_calls::enter_list(sheet, lines, text) {
-        OnSheet::Length(n) => if whole {
-            n
-        } else {
-            decimal::bytes(text, 0, b"usage: lotenter SHEET LIST\n")
-        },
-        OnSheet::Refused(e, file, line) => {
-            answers::printed_size(refusal_lines::print_fault(text, e, file, line)).size
+        Ok(size) if whole => size,
+        Ok(_) => decimal::bytes(text, 0, b"usage: lotenter SHEET LIST\n"),
+        Err(fault) => {
+            let (file, line) = (fault.place.file(), fault.place.line());
+            refusal_lines::print_fault(text, fault.refusal, file, line).unwrap_or(0)
         }
     }
 }

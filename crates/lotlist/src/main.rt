@@ -2,7 +2,7 @@
 #![tactic(auto)]
 
 ghost use Rattle.std.specs.Prelude.{◌≡◌, List, ℕ, ◌≤◌, length};
-ghost use Rattle.rules.specs.Numbers.{printed_answer};
+ghost use Rattle.rules.specs.Numbers.{text_answer};
 ghost use Rattle.rules.specs.Text.{laid_in};
 ghost use Rattle.rules.specs.Printing.{listed_for};
 ghost use Rattle.buffers.specs.Counts.{IsPrefixLen};
@@ -10,7 +10,7 @@ ghost use Rattle.decimal.specs.Laying.{Laid};
 ghost use Rattle.program_input.specs.Input.{BeginsWith};
 
 use program_input::SHEET;
-use rules::Printed;
+use rules::Refusal;
 use sheet::Answer;
 use std::io;
 
@@ -18,16 +18,14 @@ use std::io;
 const TEXT: usize = 1024;
 
 // The list of a sheet's results, or the line of its first fault.
-fn list_of(sheet: &[u8], buf: &mut [u8]) -> Printed
-    ensures buf_after { printed_answer result buf.new ≡ laid_in (listed_for sheet.now) buf.old }
+fn list_of(sheet: &[u8], buf: &mut [u8]) -> Result<usize, Refusal>
+    ensures buf_after { text_answer result buf.new ≡ laid_in (listed_for sheet.now) buf.old }
     ensures sheet_len_bound { length (listed_for sheet.now) ≤ 1024 }
 {
     let reading = sheet::read(sheet);
-    let answer = reading.answer;
-    let t = reading.tally;
-    match answer {
+    match reading.answer {
         Answer::Refused(e, line) => refusal_lines::print_refused(buf, e, line),
-        Answer::Accepted(_) => list_writer::write_list(t, buf),
+        Answer::Accepted(_) => list_writer::write_list(reading.tally, buf),
     }
 }
 
@@ -36,8 +34,7 @@ fn answer(sheet: &[u8; SHEET], read: usize, text: &mut [u8; TEXT]) -> usize
     ensures by_index { (input : List ℕ) → BeginsWith input sheet.now read → Laid (listed_for input) text.old text.new result }
     ensures prefix_len { IsPrefixLen result text.new }
 {
-    let printed = list_of(program_input::sheet_of(sheet, read), text);
-    answers::printed_size(printed).size
+    list_of(program_input::sheet_of(sheet, read), text).unwrap_or(0)
 }
 
 fn main(rt: HostRuntime) -> io::Result<()> {

@@ -18,8 +18,7 @@ fn answer(sheet: &[u8; SHEET], read: usize, text: &mut [u8; TEXT]) -> usize
     ensures by_index { (input : List ℕ) → BeginsWith input sheet.now read → Laid (printed_for input) text.old text.new result }
     ensures prefix_len { IsPrefixLen result text.new }
 {
-    let printed = judge::judge(program_input::sheet_of(sheet, read), text);
-    answers::printed_size(printed).size
+    judge::judge(program_input::sheet_of(sheet, read), text).unwrap_or(0)
 }
 
 fn main(rt: HostRuntime) -> io::Result<()> {

@@ -4,6 +4,7 @@ use mathlib.Core.Path.{◌≡◌, refl, ap, ◌∙◌, subst}
 use mathlib.Core.Bool.{true}
 use mathlib.Core.List.{List, [], ◌∷◌, ◌++◌}
 use Prim.Native.Nat.{ℕ, zero, suc, ◌-◌, ◌≤◌, ◌<◌}
+use native.Mathlib.Numerals.{add-one}
 use native.Mathlib.Omega.{arith}
 use native.Mathlib.Decide.{dec_le}
 use lib.Dec.{eqb}
@@ -23,8 +24,8 @@ use Rattle.reading_theorems.specs.Lengths.{longest_written, longest_read}
 use Rattle.reading_theorems.specs.Spelling.{Entry, Made}
 use Rattle.reading_theorems.specs.Spelling as spelling
 use Rattle.reading_theorems.proofs.Ready.{zero_at}
-use Rattle.writer.specs.Promise.{is_filled, filled}
-use Rattle.writer.proofs.Counting.{counted_most}
+use Rattle.writer.specs.Promise.{counted, is_filled, filled}
+use Rattle.writer.proofs.Counting.{counted_most, filled_none, filled_next}
 use Rattle.writer.proofs.Lengths.{length_with, sheet_length}
 use Rattle.history.specs.Calls.{judge, ledger}
 use Rattle.round_trip_theorems.specs.Statement.{ReadsAs, full_lot, full_card, filling, zero_line, zero_lines, weighed_sheet}
@@ -91,14 +92,15 @@ full_writable =
 
 -- ---- no sheet that is written is longer: below N = 5 there is no critical value
 filled_few : (l : List ℕ) (n : ℕ) → criticals_good l n ≡ true → filled l n ≤ n - least_reported
-unfolding criticals_good filled
-filled_few l zero e = omega arith
-filled_few l (suc n) e = by (dec_le least_reported n) (filled_few l n (and_left (criticals_good l n) _ e))
+unfolding criticals_good
+filled_few l zero e = omega (arith, filled_none l)
+filled_few l (suc n) e =
+    rw (← add-one n) (rw (filled_next l n) (by (dec_le least_reported n) (filled_few l n (and_left (criticals_good l n) _ e))))
   where
     v : ℕ
     v = get_or l n 0
 
-    by : Dec (least_reported ≤ n) → filled l n ≤ n - least_reported → filled l (suc n) ≤ suc n - least_reported
+    by : Dec (least_reported ≤ n) → filled l n ≤ n - least_reported → filled l n + counted (is_filled v) ≤ n + 1 - least_reported
     by (yes h) before = omega (arith, counted_most (is_filled v))
     by (no h) before =
         let none : eqb v 0 ≡ true = rw (lt-ltb n least_reported (omega arith)) at (and_right (criticals_good l n) (critical_good n v) e) in

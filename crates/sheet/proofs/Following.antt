@@ -6,6 +6,7 @@ use mathlib.Core.List.{List}
 use Prim.Native.Nat.{ℕ, ◌+◌, ◌-◌, ◌≤◌, ◌<◌}
 use native.Mathlib.Decide.{dec_le}
 use native.Mathlib.Omega.{arith}
+use Rattle.std.specs.Prelude.{Result, Ok, Err, ⊤, IsErrAnd}
 use lib.Dec.{eqb}
 use lib.ListN.{length, drop}
 use borrow.Author.Tests.{ne_eqb, lt-ltb, le-ltb}
@@ -30,12 +31,15 @@ use Rattle.cutter.proofs.Lines.{lines_ended, lines_unended, lines_none}
 use Rattle.held_lists.specs.Places.{stored}
 use Rattle.tally.specs.Calls.{Opens}
 use Rattle.head_steps.specs.declared.Progress.{Progress}
-use Rattle.head_steps.specs.Promise.{Lists, card_read, state_of, is_result, HeadEnds, just_opened}
+use Rattle.head_steps.specs.Promise.{state_of, is_result, HeadEnds, just_opened}
 use Rattle.result_steps.specs.Promise.{at_results, opened_state}
 use Rattle.rules.proofs.EveryStage.{at_every_stage}
+use Rattle.rules.proofs.RefusalLaws.{never_zero}
 use Rattle.head_steps.proofs.HeadLaws.{begin_step}
+use Rattle.tally.specs.declared.Tally.{Tally}
+use Rattle.sheet.specs.declared.Fault.{Fault}
 use Rattle.sheet.specs.declared.Reading.{Reading}
-use Rattle.sheet.specs.Promise.{ReadAs, Starts, read_rest, read_opened, HeadRead}
+use Rattle.sheet.specs.Promise.{ReadAs, Starts, read_rest, read_opened, HeadRead, SheetIs}
 
 bad_frame : (l : List ℕ) → all_digits l ≡ false → frame_of l ≡ Bad
 unfolding frame_of
@@ -96,17 +100,17 @@ module _ {s : List ℕ} {a n : ℕ} {f : FramedLine} (starts : Starts s a n) (h 
       ways (λ k q. absurd (z q)) (λ k q r. absurd (z r)) (λ k q e. (record { within = omega arith; first = omega arith; few = omega arith }, omega arith))
 
   -- the results begin with it
-  pub results_follow : {o : SheetOutcome} (p : Progress) (l m : Lists) → o ≡ read_rest s a (state_of p l) n → is_opened p.stage ≡ false
-      → HeadEnds f.frame p l m → HeadRead o s p.lot (card_read p m) p.last a n
-  results_follow p l m q i e =
-      let number = open_number p.lot (card_read p l) in
-      let state = just_opened p.lot (card_read p l) p.last in
+  pub results_follow : {o : SheetOutcome} (p : Progress) (c d : Card) → o ≡ read_rest s a (state_of p c) n → is_opened p.stage ≡ false
+      → HeadEnds f.frame p c d → HeadRead o s p.lot d p.last a n
+  results_follow p c d q i e =
+      let number = open_number p.lot c in
+      let state = just_opened p.lot c p.last in
       record {
         right =
-            line_comes (state_of p l) q (begin_step p l f.frame i e.begins)
+            line_comes (state_of p c) q (begin_step p c f.frame i e.begins)
             ∙ (after_unless (eqb number 0) number n (step_of f.frame state) behind
             ∙ (ap (unless (eqb number 0) (refused number n)) (sym (line_is state))
-            ∙ ap (λ (k : Lists). read_opened s a p.lot (card_read p k) p.last n) (sym e.kept)));
+            ∙ ap (λ (k : Card). read_opened s a p.lot k p.last n) (sym e.kept)));
         starts = starts;
       }
 
@@ -124,10 +128,15 @@ unended = at_every_stage (λ s. is_opened s ≡ false → is_ended s ≡ false) 
 pub read_as : {o q : SheetOutcome} {r : Reading} → ReadAs o r → o ≡ q → ReadAs q r
 read_as h e = record { right = h.right ∙ e; sound = h.sound; empty = h.empty }
 
-module _ (s : List ℕ) (a n last : ℕ) {l : Lot} {c : Card} {e : Refusal} (answer : Opens l c e) {m : ℕ} (is : m ≡ number_of e) where
-  pub open_refused : (m ≡ 0 → ⊥) → refused (number_of e) n ≡ read_opened s a l c last n
-  open_refused z = rw (← answer.right, ← is, ne_eqb m 0 z) refl
+module _ (s : List ℕ) (a n last : ℕ) {l : Lot} {c : Card} where
+  pub open_refused : {e : Refusal} → Opens l c (Err e) → refused (number_of e) n ≡ read_opened s a l c last n
+  open_refused {e} answer = rw (← answer.right, ne_eqb (number_of e) 0 (never_zero e)) refl
 
-  pub open_accepted : m ≡ 0 → (ks vs : List ℕ) → read_rest s a (opened_state l c last at_results ks vs) n ≡ read_opened s a l c last n
+  pub open_accepted : {u : ⊤} → Opens l c (Ok u) → (ks vs : List ℕ) → read_rest s a (opened_state l c last at_results ks vs) n ≡ read_opened s a l c last n
   unfolding stored
-  open_accepted z ks vs = rw (← answer.right, ← is, z) refl
+  open_accepted answer ks vs = rw (← answer.right) refl
+
+-- ---- what `?` hands on is the fault that was given
+pub refused_as : (o : SheetOutcome) (r : Result ℕ Fault) (f : Fault) (t : Tally) → IsErrAnd r (λ g. g ≡ f) → o ≡ refused (number_of f.refusal) f.line → SheetIs o r t
+refused_as o (Ok n) f t h q = absurd h
+refused_as o (Err g) f t h q = rw h q

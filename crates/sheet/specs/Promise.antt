@@ -1,5 +1,5 @@
 -- What the reader promises.
-use Rattle.std.specs.Prelude.{◌≡◌, List, ℕ, ◌+◌, ◌-◌, ◌≤◌, eqb, length, drop}
+use Rattle.std.specs.Prelude.{◌≡◌, List, ℕ, ◌+◌, ◌-◌, ◌≤◌, eqb, length, drop, Result, Ok, Err}
 use Rattle.rules.specs.Choice.{unless}
 use Rattle.rules.specs.Numbers.{number_of}
 use Rattle.rules.specs.Cards.{open_number}
@@ -10,14 +10,13 @@ use Rattle.rules.specs.declared.Card.{Card}
 use Rattle.tally.specs.View.{tally_of, view}
 use Rattle.tally.specs.Calls.{Sound, fresh_tally}
 use Rattle.tally.specs.declared.Tally.{Tally}
-use Rattle.head_steps.specs.Promise.{Lists, card_read, state_of, at_first, just_opened}
+use Rattle.head_steps.specs.Promise.{state_of, at_first, just_opened}
 use Rattle.sheet.specs.declared.Answer.{Answer}
 use Rattle.sheet.specs.declared.Answer.TheVariants as answer
 use Rattle.sheet.specs.declared.Reading.{Reading}
-use Rattle.sheet.specs.declared.HeadLines.{HeadLines}
-use Rattle.sheet.specs.declared.HeadLines.TheVariants as head-lines
-use Rattle.sheet.specs.declared.ResultLines.{ResultLines}
-use Rattle.sheet.specs.declared.ResultLines.TheVariants as result-lines
+use Rattle.sheet.specs.declared.Fault.{Fault}
+use Rattle.sheet.specs.declared.ResultsBegin.{ResultsBegin}
+use Rattle.sheet.specs.declared.Ended.{Ended}
 
 -- an answer and its tally, as the definition has them
 abbrev pub outcome_of : Answer → Tally → SheetOutcome
@@ -46,9 +45,9 @@ pub record Starts (s : List ℕ) (a n : ℕ) : Type 0 where
   pub first : 1 ≤ n
   pub few : n ≤ a + 1
 
--- the sheet s, with these lists for the card's at the start
-abbrev pub read_with : List ℕ → Lists → SheetOutcome
-read_with s l = read_from (lines_of s) (state_of at_first l) 0
+-- the sheet s, with this card at the start
+abbrev pub read_with : List ℕ → Card → SheetOutcome
+read_with s c = read_from (lines_of s) (state_of at_first c) 0
 
 -- the lot is opened where the n-th line starts, and the sheet read from there on
 abbrev pub read_opened : List ℕ → ℕ → Lot → Card → ℕ → ℕ → SheetOutcome
@@ -60,10 +59,10 @@ pub record HeadRead (o : SheetOutcome) (s : List ℕ) (l : Lot) (c : Card) (last
   pub right : o ≡ read_opened s a l c last n
   pub starts : Starts s a n
 
--- r is what the lines of lot and card of the sheet s come to, with the lists l before them and m after them
-abbrev pub HeadLinesAre : List ℕ → Lists → HeadLines → Lists → Type 0
-HeadLinesAre s l (head-lines.Results p a n) m = HeadRead (read_with s l) s p.lot (card_read p m) p.last a n
-HeadLinesAre s l (head-lines.Refused e n) m = read_with s l ≡ refused (number_of e) n
+-- r is what the lines of lot and card of the sheet s come to, with the card c before them and d after them
+abbrev pub HeadLinesAre : List ℕ → Card → Result ResultsBegin Fault → Card → Type 0
+HeadLinesAre s c (Ok b) d = HeadRead (read_with s c) s b.head.lot d b.head.last b.at b.line
+HeadLinesAre s c (Err f) d = read_with s c ≡ refused (number_of f.refusal) f.line
 
 -- a sheet whose outcome is o ends: t is its tally
 pub record ResultsRead (o : SheetOutcome) (t : Tally) (lines : ℕ) : Type 0 where
@@ -71,6 +70,11 @@ pub record ResultsRead (o : SheetOutcome) (t : Tally) (lines : ℕ) : Type 0 whe
   pub sound : Sound t
 
 -- r is what the lines of results come to, with these lists after them
-abbrev pub ResultLinesAre : SheetOutcome → Lot → Card → ResultLines → List ℕ → List ℕ → Type 0
-ResultLinesAre o l c (result-lines.Ended held lines) ks vs = ResultsRead o (tally_of l c ks vs held) lines
-ResultLinesAre o l c (result-lines.Refused e n) ks vs = o ≡ refused (number_of e) n
+abbrev pub ResultLinesAre : SheetOutcome → Lot → Card → Result Ended Fault → List ℕ → List ℕ → Type 0
+ResultLinesAre o l c (Ok e) ks vs = ResultsRead o (tally_of l c ks vs e.held) e.lines
+ResultLinesAre o l c (Err f) ks vs = o ≡ refused (number_of f.refusal) f.line
+
+-- r is what a sheet whose outcome is o comes to, with the tally t after it
+abbrev pub SheetIs : SheetOutcome → Result ℕ Fault → Tally → Type 0
+SheetIs o (Ok lines) t = ResultsRead o t lines
+SheetIs o (Err f) t = o ≡ refused (number_of f.refusal) f.line

@@ -59,7 +59,7 @@ module _ (t : Tally) (sound : Sound t) where
 -- ---- the calls
 module _ (s d : List ℕ) {r : Reading} (reads : ReadAs (read_of s) r) {lines : ℕ} (q : r.answer ≡ Accepted lines) {o : Outcome} {a : SheetAnswer} where
   pub entered_is : {k' x' : ℕ} (k x : ℕ) → k' ≡ kept_container k → x' ≡ kept_x x → Answers (Sound r.tally) r.tally (enter_on (view r.tally) k' x') o
-      → (Sound o.tally → a ≡ after_call 0 (listed_as o.refusal 0 o.tally) d) → a ≡ enter_sheet s k x d
+      → (Sound o.tally → a ≡ after_call 0 (listed_as o.answer 0 o.tally) d) → a ≡ enter_sheet s k x d
   unfolding enter_sheet
   entered_is {k'} {x'} k x e f g h =
       let kept : enter_on (view r.tally) k' x' ≡ enter_on (view r.tally) k x = rw (e, f) (enter_kept (view r.tally) k x reads.sound.few) in
@@ -67,7 +67,7 @@ module _ (s d : List ℕ) {r : Reading} (reads : ReadAs (read_of s) r) {lines : 
       (h (g.sound reads.sound) ∙ ap (λ (j : Judged). after_call 0 (without_line j) d) (g.right reads.sound ∙ kept))
 
   pub withdrawn_is : {k' : ℕ} (k : ℕ) → k' ≡ kept_container k → Answers (Sound r.tally) r.tally (withdraw_on (view r.tally) k') o
-      → (Sound o.tally → a ≡ after_call 0 (listed_as o.refusal 0 o.tally) d) → a ≡ withdraw_sheet s k d
+      → (Sound o.tally → a ≡ after_call 0 (listed_as o.answer 0 o.tally) d) → a ≡ withdraw_sheet s k d
   unfolding withdraw_sheet
   withdrawn_is {k'} k e g h =
       let t = r.tally in
@@ -76,7 +76,7 @@ module _ (s d : List ℕ) {r : Reading} (reads : ReadAs (read_of s) r) {lines : 
       (h (g.sound reads.sound) ∙ ap (λ (j : Judged). after_call 0 (without_line j) d) (g.right reads.sound ∙ kept))
 
 pub listed_is : (s d list : List ℕ) {r : Reading} → ReadAs (read_of s) r → {lines : ℕ} → r.answer ≡ Accepted lines → {o : Listing} {a : SheetAnswer} → Lists r.tally list o
-    → (Sound o.tally → a ≡ after_call 2 (listed_as o.refusal o.line o.tally) d) → a ≡ enter_list_sheet s list d
+    → (Sound o.tally → a ≡ after_call 2 (listed_as o.answer o.line o.tally) d) → a ≡ enter_list_sheet s list d
 unfolding enter_list_sheet
 listed_is s d list reads q g h =
     at_call s d 2 (λ g. list_on g list) reads q (h (g.sound reads.sound) ∙ ap (λ (l : Listed). after_call 2 l d) (g.right reads.sound))

@@ -2,7 +2,8 @@
 use mathlib.Core.Path.{◌≡◌, refl}
 use mathlib.Core.Bool.{Bool, true, false, not}
 use mathlib.Core.List.{List, []}
-use Prim.Native.Nat.{ℕ, zero, suc, ◌+◌, ◌-◌, ◌*◌, ◌≤◌, ◌<◌}
+use Prim.Native.Nat.{ℕ, zero, suc, ◌+◌, ◌-◌, ◌*◌}
+use native.Mathlib.Numerals.{add-one}
 use native.Mathlib.Omega.{arith}
 use lib.Dec.{eqb}
 use lib.ListN.{length, get_or, length-append}
@@ -15,7 +16,7 @@ use Rattle.rules.specs.declared.Head.{Head}
 use Rattle.rules.specs.declared.Card.{Card}
 use Rattle.rules.proofs.FieldLaws.{length_digits}
 use Rattle.writer.specs.Promise.{counted, is_filled, filled, card_room, sheet_room}
-use Rattle.writer.proofs.Counting.{count_next, count_room}
+use Rattle.writer.proofs.Counting.{filled_none, filled_next}
 
 lot_length : (a n : ℕ) → length (lot_line a n) ≡ lot_bytes
 unfolding lot_line
@@ -50,9 +51,11 @@ maybe_length k v = go (eqb v 0)
     go false = critical_length k (v - 1)
 
 criticals_length : (l : List ℕ) (n : ℕ) → length (critical_lines l n) ≡ critical_bytes * filled l n
-unfolding critical_lines filled
-criticals_length l zero = refl
-criticals_length l (suc n) = simp length-append (omega (arith, criticals_length l n, maybe_length n (get_or l n 0)))
+unfolding critical_lines
+criticals_length l zero = omega (arith, filled_none l)
+criticals_length l (suc n) =
+    let next = rw (add-one n) at (filled_next l n) in
+    simp length-append (omega (arith, next, criticals_length l n, maybe_length n (get_or l n 0)))
 
 ranges_length : (c : Card) (n : ℕ) → length (range_lines c n) ≡ range_bytes * n
 unfolding range_lines
@@ -88,12 +91,3 @@ unfolding sheet_of
 sheet_length g =
     let lines = result_lines g.contents (containers g) in
     omega (arith, length_with g lines, results_length g.contents (containers g))
-
--- ---- critical values
-pub filled_next : (l : List ℕ) (n : ℕ) → filled l (n + 1) ≡ filled l n + counted (is_filled (get_or l n 0))
-unfolding filled
-filled_next l n = count_next is_filled l n
-
-pub filled_room : (l : List ℕ) (i n : ℕ) → i < n → filled l i + counted (is_filled (get_or l i 0)) ≤ filled l n
-unfolding filled
-filled_room l i n h = count_room is_filled l i n h

@@ -11,4 +11,4 @@ loop-j-init c = (search rules, λ vs. refl)
 
 pub loop-j-preserved : goal.loop-j-preserved
 loop-j-preserved c =
-    (search rules, λ vs. meets_turn _ _ _ c.either-found.ensures (c.loop-j.invariant.1 vs) (c.is_held.ensures vs))
+    (search rules, λ vs. meets_turn _ _ _ refl (c.loop-j.invariant.1 vs) (c.is_held-found.ensures vs))

@@ -20,7 +20,9 @@ loop-read-preserved c =
     let vs = c.args.results.now in
     let low : min l.smallest x.result ≡ smallest (l.read + 1) (in_order vs) = rw (l.invariant.1, x.ensures.0) (smallest_turn vs l.read) in
     let high : max l.largest x.result ≡ largest (l.read + 1) (in_order vs) = rw (l.invariant.2, x.ensures.0) (largest_turn vs l.read) in
-    (search rules, c.smaller-smallest.ensures ∙ low, c.larger-largest.ensures ∙ high, omega (arith, c.larger-largest.ensures, x.ensures.1))
+    let least : c.min-smallest.result ≡ min l.smallest x.result = search rules in
+    let most : c.max-largest.result ≡ max l.largest x.result = search rules in
+    (search rules, least ∙ low, most ∙ high, omega (arith, most, x.ensures.1))
 
 pub returns : goal.returns
 returns c =

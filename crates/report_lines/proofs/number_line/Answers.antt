@@ -1,10 +1,10 @@
 -- `report_lines::number_line` meets its contract: its pieces, one behind the other. Assumes nothing.
-use Rattle.decimal.proofs.LayingLaws.{piece, then_piece, a_line}
+use Rattle.report_lines.proofs.Pieces.{starts, goes_on, ends}
 use Rattle.report_lines.proofs.number_line.Goals as goal
 
 pub returns : goal.returns
 returns c =
-    let one = piece _ _ _ _ _ c.bytes-a.ensures c.bytes-a.auto.buf in
-    let two = then_piece _ _ _ _ _ _ _ _ one c.pointed-b.ensures c.pointed-b.auto.buf in
-    let three = then_piece _ _ _ _ _ _ _ _ two c.mark-c.ensures c.mark-c.auto.buf in
-    a_line _ _ _ _ (then_piece _ _ _ _ _ _ _ _ three c.byte.ensures c.byte.auto.buf)
+    let one = starts c.bytes-a.ensures c.bytes-a.auto.buf in
+    let two = goes_on one c.pointed-b.ensures c.pointed-b.auto.buf in
+    let three = goes_on two c.bytes-c.ensures c.bytes-c.auto.buf in
+    rw (← c.mark.ensures.0) (ends three c.bytes.ensures c.bytes.auto.buf)

@@ -11,32 +11,34 @@ loop-at-init c =
 
 pub overflow_add-at : goal.overflow_add-at
 overflow_add-at c =
-    let next = line_next c.loop-at.invariant.0 c.loop-at-test.true c.line_at-head_line.ensures (taken_frame _ _ c.in-Taken.ensures.right) in
+    let taken = rw c.in-Ok-Some.field-0-is at c.in-Ok-Some.ensures in
+    let next = line_next c.loop-at.invariant.0 c.loop-at-test.true c.line_at-head_line.ensures (taken_frame _ _ taken.right) in
     omega (arith, next.0.within)
 
 pub loop-at-smaller : goal.loop-at-smaller
 loop-at-smaller c =
-    let next = line_next c.loop-at.invariant.0 c.loop-at-test.true c.line_at-head_line.ensures (taken_frame _ _ c.in-Taken.ensures.right) in
+    let taken = rw c.in-Ok-Some.field-0-is at c.in-Ok-Some.ensures in
+    let next = line_next c.loop-at.invariant.0 c.loop-at-test.true c.line_at-head_line.ensures (taken_frame _ _ taken.right) in
     omega (arith, next.0.within, next.1)
 
 pub loop-at-preserved : goal.loop-at-preserved
 loop-at-preserved c =
     let loop = c.loop-at in
-    let taken = c.in-Taken.ensures in (
+    let taken = rw c.in-Ok-Some.field-0-is at c.in-Ok-Some.ensures in (
       (line_next loop.invariant.0 c.loop-at-test.true c.line_at-head_line.ensures (taken_frame _ _ taken.right)).0,
       taken.unopened,
       line_comes loop.invariant.0 c.loop-at-test.true c.line_at-head_line.ensures _ loop.invariant.2 taken.right,
     )
 
-pub returns-in-Results : goal.returns-in-Results
-returns-in-Results c =
+pub returns-in-Ok-None : goal.returns-in-Ok-None
+returns-in-Ok-None c =
     let loop = c.loop-at in
-    results_follow loop.invariant.0 c.loop-at-test.true c.line_at-head_line.ensures _ _ _ loop.invariant.2 loop.invariant.1 c.in-Results.ensures
+    results_follow loop.invariant.0 c.loop-at-test.true c.line_at-head_line.ensures _ _ _ loop.invariant.2 loop.invariant.1 (rw c.in-Ok-None.field-0-is at c.in-Ok-None.ensures)
 
-pub returns-in-Refused : goal.returns-in-Refused
-returns-in-Refused c =
+pub returns-in-Err : goal.returns-in-Err
+returns-in-Err c =
     let loop = c.loop-at in
-    line_comes loop.invariant.0 c.loop-at-test.true c.line_at-head_line.ensures _ loop.invariant.2 c.in-Refused.ensures.right
+    line_comes loop.invariant.0 c.loop-at-test.true c.line_at-head_line.ensures _ loop.invariant.2 c.in-Err.ensures.right
 
 pub returns : goal.returns
 returns c =

@@ -5,18 +5,18 @@ use Rattle.sheet.proofs.take_results.Goals as goal
 
 pub overflow_add-at : goal.overflow_add-at
 overflow_add-at c =
-    let next = line_next c.loop-at.invariant.0 c.loop-at-test.true c.line_at-result_line.ensures (result_frame_lem _ c.in-Taken.ensures.result) in
+    let next = line_next c.loop-at.invariant.0 c.loop-at-test.true c.line_at-result_line.ensures (result_frame_lem _ c.in-Ok.ensures.result) in
     omega (arith, next.0.within)
 
 pub loop-at-smaller : goal.loop-at-smaller
 loop-at-smaller c =
-    let next = line_next c.loop-at.invariant.0 c.loop-at-test.true c.line_at-result_line.ensures (result_frame_lem _ c.in-Taken.ensures.result) in
+    let next = line_next c.loop-at.invariant.0 c.loop-at-test.true c.line_at-result_line.ensures (result_frame_lem _ c.in-Ok.ensures.result) in
     omega (arith, next.0.within, next.1)
 
 pub loop-at-preserved : goal.loop-at-preserved
 loop-at-preserved c =
     let loop = c.loop-at in
-    let taken = c.in-Taken.ensures in (
+    let taken = c.in-Ok.ensures in (
       (line_next loop.invariant.0 c.loop-at-test.true c.line_at-result_line.ensures (result_frame_lem _ taken.result)).0,
       λ d s. let sofar = loop.invariant.1 d s in (
         taken.proper d sofar.0,
@@ -24,11 +24,11 @@ loop-at-preserved c =
       ),
     )
 
-pub returns-in-Refused : goal.returns-in-Refused
-returns-in-Refused c d last s =
+pub returns-in-Err : goal.returns-in-Err
+returns-in-Err c d last s =
     let loop = c.loop-at in
     let sofar = loop.invariant.1 d s in
-    line_comes loop.invariant.0 c.loop-at-test.true c.line_at-result_line.ensures _ (sofar.1 last) (c.in-Refused.ensures.right d last sofar.0)
+    line_comes loop.invariant.0 c.loop-at-test.true c.line_at-result_line.ensures _ (sofar.1 last) (c.in-Err.ensures.right d last sofar.0)
 
 pub returns-then-is_ended : goal.returns-then-is_ended
 returns-then-is_ended c d last s =
