@@ -8,153 +8,64 @@
 //     sampling CONTAINERS KILOGRAMS    label LABELLED FOUND    pair FIRST SECOND    mixing TOLERATED X X ..
 #![tactic(auto)]
 
-mod beside;
 mod lines;
 mod print;
 mod tallies;
 
-use lines::MOST_NUMBERS;
+use lines::CallLine;
 use rules::Refusal;
 use std::io;
 use tally::{Outcome, Tally};
 
-// A call that changes a tally.
-fn changed(name: &[u8], t: Tally, other: Tally, numbers: &[u32; MOST_NUMBERS]) -> Outcome {
-    if name == b"open".as_slice() {
-        return tallies::open(t, numbers);
-    }
-    if name == b"enter".as_slice() {
-        return tallies::enter(t, numbers);
-    }
-    if name == b"weigh".as_slice() {
-        return tallies::weigh(t, numbers);
-    }
-    if name == b"withdraw".as_slice() {
-        return tallies::withdraw(t, numbers);
-    }
-    if name == b"join".as_slice() {
-        return tally::join(t, other);
-    }
-    Outcome {
-        refusal: Refusal::BadLine,
-        tally: t,
+// mixing TOLERATED X X ..
+fn mixing(rt: &impl Print, line: &CallLine) -> io::Result<()> {
+    let kept = line.numbers.get(..line.count);
+    match kept.and_then(|numbers| numbers.split_first()) {
+        Some((tolerated, results)) => print::test(rt, mixing::mixable(results, *tolerated)),
+        None => Ok(()),
     }
 }
 
-// A call beside the tally is made, and any other is not.
-fn beside_made(
-    rt: &impl Print,
-    name: &[u8],
-    numbers: &[u32; MOST_NUMBERS],
-    count: usize,
-) -> io::Result<bool> {
-    if name == b"sampling".as_slice() {
-        beside::sampling(rt, numbers)?;
-        return Ok(true);
-    }
-    if name == b"label".as_slice() {
-        beside::label(rt, numbers)?;
-        return Ok(true);
-    }
-    if name == b"pair".as_slice() {
-        beside::pair(rt, numbers)?;
-        return Ok(true);
-    }
-    if name == b"mixing".as_slice() {
-        beside::mixing(rt, numbers, count)?;
-        return Ok(true);
-    }
-    Ok(false)
+// The tally after a call that changes it; an unknown call changes nothing.
+fn changed(rt: &impl Print, line: &CallLine, t: Tally, other: Tally) -> io::Result<Tally> {
+    let outcome = match line.name {
+        b"open" => tallies::open(t, &line.numbers),
+        b"enter" => tallies::enter(t, &line.numbers),
+        b"weigh" => tallies::weigh(t, &line.numbers),
+        b"withdraw" => tallies::withdraw(t, &line.numbers),
+        b"join" => tally::join(t, other),
+        _ => Outcome {
+            answer: Err(Refusal::BadLine),
+            tally: t,
+        },
+    };
+    print::held(rt, outcome.answer, outcome.tally.held)?;
+    Ok(outcome.tally)
 }
 
-// A call that only reads a tally is made, and any other is not.
-fn reading_made(rt: &impl Print, name: &[u8], t: Tally) -> io::Result<bool> {
-    if name == b"report".as_slice() {
-        tallies::report(rt, t)?;
-        return Ok(true);
+// The tally after a line's call.
+fn after(rt: &impl Print, line: &CallLine, t: Tally, other: Tally) -> io::Result<Tally> {
+    let [first, second, ..] = line.numbers;
+    match line.name {
+        b"sampling" => print::number(rt, sampling::primary_samples(first, second))?,
+        b"label" => print::test(rt, tolerance::label(first, second))?,
+        b"pair" => print::test(rt, tolerance::pair(first, second))?,
+        b"mixing" => mixing(rt, line)?,
+        b"report" => print::text(rt, |buf| report::report(t, buf))?,
+        b"write" => print::text(rt, |buf| writer::write(t, buf))?,
+        b"writelist" => print::text(rt, |buf| list_writer::write_list(t, buf))?,
+        b"list" => return tallies::list(rt, t, line),
+        _ => return changed(rt, line, t, other),
     }
-    if name == b"write".as_slice() {
-        tallies::write(rt, t)?;
-        return Ok(true);
-    }
-    if name == b"writelist".as_slice() {
-        tallies::write_list(rt, t)?;
-        return Ok(true);
-    }
-    Ok(false)
-}
-
-// The tally after a call on it.
-fn after(
-    rt: &impl Print,
-    name: &[u8],
-    words: &[u8],
-    t: Tally,
-    other: Tally,
-    numbers: &[u32; MOST_NUMBERS],
-) -> io::Result<Tally> {
-    if reading_made(rt, name, t)? {
-        return Ok(t);
-    }
-    if name == b"list".as_slice() {
-        return tallies::list(rt, t, words);
-    }
-    let outcome = changed(name, t, other, numbers);
-    let refusal = outcome.refusal;
-    let next = outcome.tally;
-    print::held(rt, refusal.number(), next.held)?;
-    Ok(next)
-}
-
-#[derive(Drop)]
-struct BothTallies {
-    one: Tally,
-    two: Tally,
-}
-
-// Both tallies after a line's call; the words are those behind the name, each with the blank before it.
-fn step(
-    rt: &impl Print,
-    name: &[u8],
-    words: &[u8],
-    both: BothTallies,
-    numbers: &[u32; MOST_NUMBERS],
-    count: usize,
-) -> io::Result<BothTallies> {
-    if beside_made(rt, name, numbers, count)? {
-        return Ok(both);
-    }
-    let one = both.one;
-    let two = both.two;
-    if numbers[0] == 2 {
-        let next = after(rt, name, words, two, one, numbers)?;
-        return Ok(BothTallies { one, two: next });
-    }
-    let next = after(rt, name, words, one, two, numbers)?;
-    Ok(BothTallies { one: next, two })
+    Ok(t)
 }
 
 fn run(rt: &impl Print, text: &[u8]) -> io::Result<()> {
-    let mut both = BothTallies {
-        one: tally::fresh(),
-        two: tally::fresh(),
-    };
-    let mut at = 0;
-    while at < text.len() {
-        let mut numbers = [0u32; MOST_NUMBERS];
-        let line = lines::line_at(text, at, &mut numbers);
-        let end = line.end;
-        let last = line.last;
-        let next = last + 1;
-        both = step(
-            rt,
-            &text[at..end],
-            &text[end..last],
-            both,
-            &numbers,
-            line.count,
-        )?;
-        at = next;
+    let mut tallies = [tally::fresh(); 2];
+    for line in text.split_inclusive(|b| *b == b'\n') {
+        let line = lines::read(line.strip_suffix(b"\n").unwrap_or(line));
+        let named = usize::from(line.numbers[0] == 2);
+        tallies[named] = after(rt, &line, tallies[named], tallies[1 - named])?;
     }
     Ok(())
 }

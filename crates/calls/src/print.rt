@@ -1,42 +1,54 @@
 // A line of the answer.
-use rules::{Answered, TextSize};
+use rules::Refusal;
 use std::io;
 
-fn number(rt: &impl Print, n: u64) -> io::Result<()> {
-    println!(rt; "{n}")
-}
-
-fn refused(rt: &impl Print, e: u32) -> io::Result<()> {
-    println!(rt; "REFUSED {e}")
+fn refused(rt: &impl Print, refusal: Refusal) -> io::Result<()> {
+    println!(rt; "REFUSED {}", refusal.number())
 }
 
 // A call beside the tally: its value, or its refusal.
-pub fn answered(rt: &impl Print, a: Answered) -> io::Result<()> {
-    if a.number == 0 {
-        number(rt, a.value as u64)
-    } else {
-        refused(rt, a.number)
+pub fn number(rt: &impl Print, answer: Result<u32, Refusal>) -> io::Result<()> {
+    match answer {
+        Ok(value) => println!(rt; "{value}"),
+        Err(refusal) => refused(rt, refusal),
     }
 }
 
+// 1 for within and for mixable, 0 for out and for not mixable.
+pub fn test(rt: &impl Print, answer: Result<bool, Refusal>) -> io::Result<()> {
+    number(rt, answer.map(u32::from))
+}
+
+// The number of an answer that has no value: 0, or the refusal's.
+fn number_of(answer: Result<(), Refusal>) -> u32 {
+    answer.err().map_or(0, |refusal| refusal.number())
+}
+
 // A call that changes a tally: its answer's number, and how many results are then held.
-pub fn held(rt: &impl Print, e: u32, results: usize) -> io::Result<()> {
-    println!(rt; "{e} held {results}")
+pub fn held(rt: &impl Print, answer: Result<(), Refusal>, results: usize) -> io::Result<()> {
+    println!(rt; "{} held {results}", number_of(answer))
 }
 
 // A comma list: its answer's number and line, and how many results are then held.
-pub fn listed(rt: &impl Print, e: u32, line: usize, results: usize) -> io::Result<()> {
-    println!(rt; "{e} {line} held {results}")
+pub fn listed(
+    rt: &impl Print,
+    answer: Result<(), Refusal>,
+    line: usize,
+    results: usize,
+) -> io::Result<()> {
+    println!(rt; "{} {line} held {results}", number_of(answer))
 }
 
-// A call that writes a text: its text, which stands at the front of the buffer, or its refusal.
-pub fn text(rt: &impl Print, buf: &[u8], t: TextSize) -> io::Result<()> {
-    let n = t.size;
-    if t.number != 0 {
-        refused(rt, t.number)
-    } else if n <= buf.len() {
-        rt.write_all(&buf[0..n])
-    } else {
-        Ok(())
+// A call that writes a text: its text, or its refusal.
+pub fn text<F: FnOnce(&mut [u8]) -> Result<usize, Refusal>>(
+    rt: &impl Print,
+    write: F,
+) -> io::Result<()>
+    requires { F.IsAlwaysCallable write }
+{
+    let mut buf = buffers::zeroed::<4096>();
+    match write(&mut buf) {
+        Ok(n) => rt.write_all(buf.get(..n).unwrap_or_default()),
+        Err(refusal) => refused(rt, refusal),
     }
 }

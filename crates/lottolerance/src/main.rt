@@ -13,18 +13,16 @@ use program_words::{Unsaid, WORD};
 use std::io;
 
 // What is said to the words.
-#[tactic(auto, using(program_words::proofs::SayingLaws::refusal_said, program_lines::proofs::SameLaws::same_is))]
+#[tactic(auto, using(program_words::proofs::SayingLaws::refusal_said, program_lines::proofs::SameLaws::same_words))]
 fn said_to(kind: &[u8], words: Option<(u32, u32)>) -> Result<bool, Unsaid>
     ensures { test_said result ≡ said_to_two (said_to_kind kind.now) words }
 {
     let (a, b) = words.ok_or(Unsaid::Usage)?;
-    if kind == b"label".as_slice() {
-        return Ok(tolerance::label(a, b)?);
+    match kind {
+        b"label" => Ok(tolerance::label(a, b)?),
+        b"pair" => Ok(tolerance::pair(a, b)?),
+        _ => Err(Unsaid::Usage),
     }
-    if kind == b"pair".as_slice() {
-        return Ok(tolerance::pair(a, b)?);
-    }
-    Err(Unsaid::Usage)
 }
 
 // The line to the words, which stand in the first `k`, `a` and `b` bytes of their buffers, and its length.
