@@ -1,11 +1,11 @@
 // The words of a report, and how long its five lines are, so that nothing is written where they do not fit.
 #![tactic(auto)]
 
-ghost use Rattle.std.specs.Prelude.{◌≡◌, [], ◌≤◌, length};
-ghost use Rattle.rules.specs.Text.{pointed};
-ghost use Rattle.rules.specs.Report.{limit_text, value_line, judgement_text, findings_text};
+ghost use Rattle.std.specs.Prelude.{◌≡◌, ◌≤◌, length};
+ghost use Rattle.rules.specs.Text.{text, pointed};
+ghost use Rattle.rules.specs.Report.{limit_text, value_line, lot_verdict_line, judgement_text, findings_text};
 
-use rules::{Findings, Judgement, Value};
+use rules::{Findings, Judgement, Value, Verdict};
 
 pub mod words;
 
@@ -26,23 +26,31 @@ fn limit_size(places: u8, limit: Option<u32>) -> usize
     }
 }
 
-// The line of H or of R, without its name.
+// The line of H or of R, with its name.
 #[tactic(auto, unfolding(rules::specs::Report::value_line))]
 fn value_size(v: Value) -> usize
-    ensures { (result ≡ length (value_line [] v)) × (result ≤ 700) }
+    ensures { (result ≡ length (value_line (text "H ") v)) × (result ≡ length (value_line (text "R ") v)) × (result ≤ 700) }
 {
     let value = number_size(v.places, v.value) + words::mark(v.side).len();
-    value + limit_size(v.places, v.limit) + words::verdict(v.verdict).len() + 3
+    value + limit_size(v.places, v.limit) + words::verdict(v.verdict).len() + 5
+}
+
+// The line of the lot.
+#[tactic(auto, unfolding(rules::specs::Report::lot_verdict_line))]
+fn lot_size(v: Verdict) -> usize
+    ensures { (result ≡ length (lot_verdict_line v)) × (result ≤ 18) }
+{
+    words::lot(v).len() + 5
 }
 
 // The lines of H, of R and of the lot.
-#[tactic(auto, unfolding(rules::specs::Report::judgement_text, rules::specs::Report::value_line, rules::specs::Report::lot_verdict_line))]
+#[tactic(auto, unfolding(rules::specs::Report::judgement_text))]
 fn judgement_size(judgement: Option<Judgement>) -> usize
     ensures { (result ≡ length (judgement_text judgement)) × (result ≤ 1500) }
 {
     match judgement {
         None => words::VOID.len(),
-        Some(j) => value_size(j.h) + value_size(j.r) + words::lot(j.lot).len() + 9,
+        Some(j) => value_size(j.h) + value_size(j.r) + lot_size(j.lot),
     }
 }
 
