@@ -160,7 +160,7 @@ fn run(rt: &impl Print, text: &[u8]) -> io::Result<()> {
 }
 
 fn main(rt: HostRuntime) -> io::Result<()> {
-    let mut text = buffers::large();
+    let mut text = buffers::zeroed::<65536>();
     let n = buffers::read_full(&mut rt.stdin(), &mut text)?;
     run(&rt, &text[..n])
 }

@@ -70,7 +70,7 @@ pub fn withdraw(t: Tally, numbers: &[u32; MOST_NUMBERS]) -> Outcome {
 
 // list TALLY WORD WORD ..: its lines are entered. The words are those behind the name, the tally's number among them.
 pub fn list(rt: &impl Print, t: Tally, words: &[u8]) -> io::Result<Tally> {
-    let mut list = buffers::small();
+    let mut list = buffers::zeroed::<4096>();
     let start = lines::behind_first(words);
     let n = lines::lay_list(&words[start..], &mut list);
     let outcome = list_reader::read_list(t, &list[..n]);
@@ -82,21 +82,21 @@ pub fn list(rt: &impl Print, t: Tally, words: &[u8]) -> io::Result<Tally> {
 
 // writelist TALLY: its results as a comma list, or the refusal.
 pub fn write_list(rt: &impl Print, t: Tally) -> io::Result<()> {
-    let mut buf = buffers::small();
+    let mut buf = buffers::zeroed::<4096>();
     let text = answers::printed_size(list_writer::write_list(t, &mut buf));
     print::text(rt, &buf, text)
 }
 
 // report TALLY: its text, or the refusal.
 pub fn report(rt: &impl Print, t: Tally) -> io::Result<()> {
-    let mut buf = buffers::small();
+    let mut buf = buffers::zeroed::<4096>();
     let text = answers::reported_size(report::report(t, &mut buf));
     print::text(rt, &buf, text)
 }
 
 // write TALLY: its sheet, or the refusal.
 pub fn write(rt: &impl Print, t: Tally) -> io::Result<()> {
-    let mut buf = buffers::small();
+    let mut buf = buffers::zeroed::<4096>();
     let text = answers::written_size(writer::write(t, &mut buf));
     print::text(rt, &buf, text)
 }

@@ -10,7 +10,7 @@ ghost use Rattle.codes.specs.Codes.{refusal_code, size_code, fault_code, call_co
 use rules::{Fault, Refusal, WIDEST};
 
 // What is added to a refusal's number.
-pub const REFUSED: u64 = 4294967296;
+const REFUSED: u64 = 4294967296;
 
 // The code of a call that gives a number or a test: its value where it is not refused.
 pub fn answer_code<T: Into<u64>>(answer: Result<T, Refusal>) -> u64
@@ -23,6 +23,7 @@ pub fn answer_code<T: Into<u64>>(answer: Result<T, Refusal>) -> u64
 }
 
 // The code of a call that writes a text.
+#[tactic(auto, using(crate::proofs::CodeLaws::code_laws))]
 pub fn size_code(answer: Result<usize, Refusal>) -> u64
     ensures { result ≡ size_code (text_size answer) }
 {

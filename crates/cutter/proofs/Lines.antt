@@ -2,17 +2,17 @@
 use mathlib.Core.Path.{◌≡◌, refl, sym, ap, ◌∙◌}
 use mathlib.Core.Bool.{Bool, true, false, not, true≢false}
 use mathlib.Core.List.{List, [], ◌∷◌, ◌++◌, append_assoc, append-nil}
-use Prim.Native.Nat.{ℕ, zero, suc, ◌+◌, ◌≤◌, ◌<◌, max}
+use Prim.Native.Nat.{ℕ, suc, ◌+◌, ◌≤◌, ◌<◌, max}
 use native.Mathlib.Omega.{arith}
 use lib.Dec.{eqb, ltb, leb-suc-suc}
 use lib.ListN.{length, get_or, take, drop, length-drop, drop_of_length-le}
 use lib.Seq.{drop-cons, drop-drop, get_or-take, get_or-drop, length-take-le}
 use borrow.Author.Tests.{ne_eqb, eqb-true, lt-ltb, le-ltb, not-false}
+use Rattle.std.proofs.lemmas.List.Recursion.{and_at, and_from_places}
 use Rattle.rules.specs.Choice.{pick}
 use Rattle.rules.specs.Text.{byte}
 use Rattle.rules.specs.Fields.{is_digit, all_digits}
 use Rattle.rules.specs.Lines.{Line, ended, unended, left, cut_from, lines_of}
-use Rattle.rules.proofs.Tests.{and_both, and_left, and_right}
 use Rattle.rules.proofs.LineLaws.{no_lines}
 use Rattle.cutter.specs.Runs.{run_of, run_at, is_of_line, line_at, digits_at}
 use Rattle.cutter.proofs.Runs.{run_le, run_passes, run_fails, run_only, run_length}
@@ -20,9 +20,7 @@ use Rattle.cutter.proofs.Runs.{run_le, run_passes, run_fails, run_only, run_leng
 -- ---- the digits of a line, and the line
 pub digit_at : (l : List ℕ) (i : ℕ) → all_digits l ≡ true → i < length l → is_digit (get_or l i 0) ≡ true
 unfolding all_digits
-digit_at [] i e h = absurd (omega arith)
-digit_at (x ∷ xs) zero e h = and_left (is_digit x) (all_digits xs) e
-digit_at (x ∷ xs) (suc i) e h = digit_at xs i (and_right (is_digit x) (all_digits xs) e) (omega arith)
+digit_at l i e h = and_at all_digits is_digit refl (λ x xs. refl) l i 0 h e
 
 digit_of_line : (x : ℕ) → is_digit x ≡ true → is_of_line x ≡ true
 digit_of_line x e = ap not (ne_eqb x 10 (λ h. true≢false (sym e ∙ ap is_digit h)))
@@ -31,13 +29,12 @@ end_byte : (x : ℕ) → is_of_line x ≡ false → x ≡ 10
 end_byte x e = eqb-true x 10 (not-false (eqb x 10) e)
 
 run_digits : (l : List ℕ) → all_digits (take (run_of is_digit l) l) ≡ true
-unfolding run_of all_digits
-run_digits [] = refl
-run_digits (x ∷ xs) = by (is_digit x) refl (run_digits xs)
-  where
-    by : (b : Bool) → is_digit x ≡ b → all_digits (take (run_of is_digit xs) xs) ≡ true → all_digits (take (pick b (suc (run_of is_digit xs)) 0) (x ∷ xs)) ≡ true
-    by true e h = and_both e h
-    by false e h = refl
+unfolding all_digits
+run_digits l =
+    let n = run_of is_digit l in
+    let long = length-take-le n l (run_le is_digit l) in
+    and_from_places all_digits is_digit refl (λ x xs. refl) (take n l) 0
+    (λ i h. rw (get_or-take n l i 0 (omega arith)) (run_passes is_digit l i (omega arith)))
 
 -- the digits are the line where the end byte or the end of the bytes follows them
 line_of_digits : (l : List ℕ) → (run_of is_digit l < length l → get_or l (run_of is_digit l) 0 ≡ 10) → run_of is_of_line l ≡ run_of is_digit l

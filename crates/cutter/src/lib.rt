@@ -9,10 +9,11 @@ ghost use Rattle.cutter.specs.Cutting.{CutAt};
 
 use rules::{BALANCE_DIGITS, CARD_DIGITS, RANGE_DIGITS, RESULT_DIGITS};
 
+// Two tests and no branch: of one test for both ranges the compiler makes branches, and a line takes three times as long.
 fn is_digit(c: u8) -> bool
     ensures { result ≡ is_digit c }
 {
-    matches!(c, b'0'..=b'9' | b'A'..=b'F')
+    matches!(c, b'0'..=b'9') | matches!(c, b'A'..=b'F')
 }
 
 // Whether all these bytes are digits. With no branch: the compiler looks at eight together.

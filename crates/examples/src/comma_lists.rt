@@ -36,9 +36,9 @@ fn entered_as(sheet: &[u8], list: &[u8], expected: &[u8], buf: &mut [u8]) -> boo
 
 // Whether the results of sheet n of a group are written as its text says.
 pub fn written(rt: &impl Files, group: u8, n: usize) -> bool {
-    let mut sheet = buffers::small();
-    let mut expected = buffers::small();
-    let mut buf = buffers::small();
+    let mut sheet = buffers::zeroed::<4096>();
+    let mut expected = buffers::zeroed::<4096>();
+    let mut buf = buffers::zeroed::<4096>();
     let s = files::read_sheet(rt, group, n, &mut sheet);
     let e = files::read_text(rt, group, n, &mut expected);
     written_as(&sheet[..s], &expected[..e], &mut buf)
@@ -46,10 +46,10 @@ pub fn written(rt: &impl Files, group: u8, n: usize) -> bool {
 
 // Whether sheet n of a group has its list entered as its text says.
 pub fn entered(rt: &impl Files, group: u8, n: usize) -> bool {
-    let mut sheet = buffers::small();
-    let mut list = buffers::small();
-    let mut expected = buffers::small();
-    let mut buf = buffers::small();
+    let mut sheet = buffers::zeroed::<4096>();
+    let mut list = buffers::zeroed::<4096>();
+    let mut expected = buffers::zeroed::<4096>();
+    let mut buf = buffers::zeroed::<4096>();
     let s = files::read_sheet(rt, group, n, &mut sheet);
     let l = files::read_list(rt, group, n, &mut list);
     let e = files::read_text(rt, group, n, &mut expected);

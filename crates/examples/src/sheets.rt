@@ -19,9 +19,9 @@ fn decided_as(sheet: &[u8], expected: &[u8], buf: &mut [u8]) -> bool {
 
 // Whether sheet n of a group is judged as its text says.
 pub fn judged(rt: &impl Files, group: u8, n: usize) -> bool {
-    let mut sheet = buffers::large();
-    let mut expected = buffers::small();
-    let mut buf = buffers::small();
+    let mut sheet = buffers::zeroed::<65536>();
+    let mut expected = buffers::zeroed::<4096>();
+    let mut buf = buffers::zeroed::<4096>();
     let s = files::read_sheet(rt, group, n, &mut sheet);
     let e = files::read_text(rt, group, n, &mut expected);
     decided_as(&sheet[..s], &expected[..e], &mut buf)

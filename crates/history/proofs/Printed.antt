@@ -1,5 +1,5 @@
 -- What the text of a report says of N, of the mean and of H. Assumes nothing.
-use Rattle.std.specs.Prelude.{Option, None, Some}
+use Rattle.std.specs.Prelude.{None, Some}
 use Prim.Native.Nat.{ℕ, ◌+◌, ◌*◌, ◌^◌, ◌≤◌, ◌<◌}
 use native.Mathlib.Decide.{dec_le}
 use native.Mathlib.Omega.{arith}
@@ -21,7 +21,6 @@ use Rattle.rules.specs.Ledger.{Ledger, held}
 use Rattle.rules.specs.declared.Rounded.{Rounded}
 use Rattle.rules.specs.declared.Value.{Value}
 use Rattle.rules.specs.declared.Verdict.{Verdict}
-use Rattle.rules.specs.declared.Verdict.TheVariants.{Undecided}
 use Rattle.rules.proofs.RoundingLaws.{nearest_is, side_equal, side_larger, side_smaller, reported_nearest, reported_zero, reported_side, above_over, below_kept}
 use Rattle.rules.proofs.SpreadLaws.{under_positive}
 use Rattle.history.specs.Verdict.{attribute, Marked, MeanShown, quotient, upper, lower, NearestH, Against, WorkedOut, ReportLines}
@@ -187,11 +186,19 @@ abbrev pub text_by : Ledger → Bool → List ℕ
 text_by g b =
     findings_text (found_with (attribute g) (figures g) (pick b None (Some (judgement_of (attribute g) g.card (figures g)))))
 
+-- a line more at a time
+one_by_one : (a b c d : List ℕ) → a ++ (b ++ c ++ d) ≡ a ++ b ++ c ++ d
+one_by_one a b c d = simp append_assoc
+
+abbrev front : Ledger → List ℕ
+front g = count_line_lem g ++ text "\n" ++ (mean_line_lem g ++ text "\n")
+
 pub void_lines : (g : Ledger)
     → lines_of (text_by g true) ≡ ended (count_line_lem g) ∷ ended (mean_line_lem g) ∷ ended (text "H void") ∷ ended (text "R void") ∷ ended (text "LOT void") ∷ []
-unfolding findings_text judgement_text count_line mean_line value_line lot_verdict_line count_line_lem mean_line_lem occurs
+unfolding findings_text judgement_text count_line mean_line count_line_lem mean_line_lem occurs
 void_lines g =
-    five_lines (count_endless g) (mean_endless g) (written (text "H void") refl) (written (text "R void") refl) (written (text "LOT void") refl)
+    ap lines_of (one_by_one (front g) (text "H void\n") (text "R void\n") (text "LOT void\n"))
+    ∙ five_lines (count_endless g) (mean_endless g) (written (text "H void") refl) (written (text "R void") refl) (written (text "LOT void") refl)
 
 pub lot_line_lem : Ledger → List ℕ
 lot_line_lem g = text "LOT " ++ lot_word (lot g)
@@ -200,7 +207,8 @@ pub worked_lines : (g : Ledger)
     → lines_of (text_by g false) ≡ ended (count_line_lem g) ∷ ended (mean_line_lem g) ∷ ended (valued (text "H ") (h g)) ∷ ended (valued (text "R ") (r g)) ∷ ended (lot_line_lem g) ∷ []
 unfolding findings_text judgement_text count_line mean_line value_line lot_verdict_line count_line_lem mean_line_lem valued lot_line_lem occurs
 worked_lines g =
-    five_lines (count_endless g) (mean_endless g)
+    ap lines_of (one_by_one (front g) (value_line (text "H ") (h g)) (value_line (text "R ") (r g)) (lot_verdict_line (lot g)))
+    ∙ five_lines (count_endless g) (mean_endless g)
     (valued_endless (text "H ") (h g) (written (text "H ") refl))
     (valued_endless (text "R ") (r g) (written (text "R ") refl))
     (joined (written (text "LOT ") refl) (lot_endless (lot g)))

@@ -1,3 +1,2 @@
-pub mod CodingLaws
 pub mod FewLines
 pub mod CallLaws

@@ -2,20 +2,20 @@
 use mathlib.Core.Path.{◌≡◌, refl, sym, ap, ◌∙◌}
 use mathlib.Core.Bool.{Bool, true, false}
 use mathlib.Core.List.{List}
+use Rattle.std.specs.Prelude.{Result}
 use Prim.Native.Nat.{ℕ}
 use lib.Dec.{ltb}
 use lib.ListN.{length}
 use borrow.Author.Tests.{eqb-false}
 use Rattle.rules.specs.Choice.{pick}
 use Rattle.rules.specs.Limits.{least_reported}
-use Rattle.rules.specs.Numbers.{number_of, TextAnswer, wrote, refuses_text, reported_answer}
+use Rattle.rules.specs.Numbers.{number_of, TextAnswer, wrote, refuses_text, text_answer}
 use Rattle.rules.specs.Text.{laid, laid_in}
 use Rattle.rules.specs.Ledger.{held}
 use Rattle.rules.specs.Report.{report_of}
 use Rattle.rules.specs.Reading.{read_of}
 use Rattle.rules.specs.Printing.{refused_line, printed_for, print_on}
 use Rattle.rules.specs.declared.Refusal.{Refusal}
-use Rattle.rules.specs.declared.Reported.{Reported}
 use Rattle.tally.specs.View.{view}
 use Rattle.report.specs.Reports.{Reports}
 use Rattle.sheet.specs.declared.Answer.TheVariants.{Accepted, Refused}
@@ -42,17 +42,17 @@ module _ (s d : List ℕ) {r : Reading} (reads : ReadAs (read_of s) r) where
   unfolding printed_for
   judged_refused q h = h ∙ rw (← reads.right, q) refl
 
-  module _ {lines : ℕ} {e : List ℕ} {a : Reported} (q : r.answer ≡ Accepted lines) (h : Reports r.tally d a e) where
+  module _ {lines : ℕ} {e : List ℕ} {a : Result ℕ Refusal} (q : r.answer ≡ Accepted lines) (h : Reports r.tally d a e) where
     accepted_is : laid_in (pick (ltb (held (view r.tally)) least_reported) (refused_line 15 lines) (report_of (view r.tally))) d ≡ print_on s d
     unfolding printed_for
     accepted_is = rw (← reads.right, q) refl
 
-    pub judged_text : ((reported_answer a e).number ≡ 15 → ⊥) → reported_answer a e ≡ print_on s d
+    pub judged_text : ((text_answer a e).number ≡ 15 → ⊥) → text_answer a e ≡ print_on s d
     judged_text z =
-        enough (ltb (held (view r.tally)) least_reported) (refused_line 15 lines) (report_of (view r.tally)) d (reported_answer a e) z (h.right reads.sound)
+        enough (ltb (held (view r.tally)) least_reported) (refused_line 15 lines) (report_of (view r.tally)) d (text_answer a e) z (h.right reads.sound)
         ∙ accepted_is
 
-    pub judged_few : {x : TextAnswer} → reported_answer a e ≡ refuses_text 15 e → x ≡ laid_in (refused_line 15 lines) e → x ≡ print_on s d
+    pub judged_few : {x : TextAnswer} → text_answer a e ≡ refuses_text 15 e → x ≡ laid_in (refused_line 15 lines) e → x ≡ print_on s d
     judged_few i g =
         let t = sym i ∙ h.right reads.sound in
         g ∙ (too_few (ltb (held (view r.tally)) least_reported) (refused_line 15 lines) (report_of (view r.tally)) d e t ∙ accepted_is)

@@ -2,29 +2,29 @@
 #![tactic(auto)]
 
 ghost use Rattle.std.specs.Prelude.{◌≡◌};
-ghost use Rattle.rules.specs.Numbers.{printed_answer};
+ghost use Rattle.rules.specs.Numbers.{text_answer};
 ghost use Rattle.rules.specs.Printing.{print_on};
 
-use rules::{Printed, Refusal, Reported};
+use rules::Refusal;
 use sheet::Answer;
 
 // What lotreport prints for a sheet: the report of its tally, or the line of its first fault. A sheet with too few results is
 // refused at its last line, that of the 06 frame.
-pub fn judge(sheet: &[u8], buf: &mut [u8]) -> Printed
-    ensures { printed_answer result buf.new ≡ print_on sheet.now buf.old }
+pub fn judge(sheet: &[u8], buf: &mut [u8]) -> Result<usize, Refusal>
+    ensures { text_answer result buf.new ≡ print_on sheet.now buf.old }
 {
     let reading = sheet::read(sheet);
-    let answer = reading.answer;
-    let t = reading.tally;
-    match answer {
+    match reading.answer {
         Answer::Refused(e, line) => refusal_lines::print_refused(buf, e, line),
-        Answer::Accepted(lines) => {
-            let reported = report::report(t, buf);
-            match reported {
-                Reported::Length(n) => Printed::Length(n),
-                Reported::TooFew => refusal_lines::print_refused(buf, Refusal::TooFew, lines),
-                Reported::BufferShort => Printed::BufferShort,
+        Answer::Accepted(lines) => match report::report(reading.tally, buf) {
+            Ok(size) => Ok(size),
+            Err(refusal) => {
+                if refusal.number() == Refusal::TooFew.number() {
+                    refusal_lines::print_refused(buf, Refusal::TooFew, lines)
+                } else {
+                    Err(refusal)
+                }
             }
-        }
+        },
     }
 }

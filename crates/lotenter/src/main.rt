@@ -88,9 +88,9 @@ fn read_file(rt: &(impl Env + Files), place: usize, into: &mut [u8]) -> usize
 }
 
 fn main(rt: HostRuntime) -> io::Result<()> {
-    let mut sheet = buffers::small();
-    let mut list = buffers::large();
-    let mut text = buffers::small();
+    let mut sheet: [u8; SHEET] = buffers::zeroed();
+    let mut list: [u8; LIST] = buffers::zeroed();
+    let mut text: [u8; TEXT] = buffers::zeroed();
     let m = read_file(&rt, 1, &mut sheet);
     let n = read_file(&rt, 2, &mut list);
     let size = answer(&sheet, m, &list, n, &mut text);

@@ -1,95 +1,65 @@
 // lotmixing TOLERATED X X ..: prints `mixable` or `not mixable`, for component lots with the results X and a tolerated R.
 #![tactic(auto)]
 
-ghost use Rattle.std.specs.Prelude.{◌≡◌, List, [], ℕ, ◌-◌, take};
+ghost use Rattle.std.specs.Prelude.{◌≡◌, List, ℕ, ◌-◌, take};
 ghost use Rattle.buffers.specs.Counts.{IsPrefixLen};
 ghost use Rattle.decimal.specs.Laying.{Laid};
 ghost use Rattle.program_words.specs.Given.{GivenAs};
+ghost use Rattle.program_words.specs.Saying.{test_said};
 ghost use Rattle.program_lines.specs.Printing.{said_to_mixing, mixing_prints};
-ghost use Rattle.lotmixing.specs.Listing.{KeptOf, Adds, OneMore, ReadOf};
+ghost use Rattle.lotmixing.specs.Listing.{KeptOf, Adds, OneMore, ReadOf, said_to_numbers};
 
-use decimal_words::Word;
+mod numbers;
+
+use numbers::Numbers;
 use program_lines::LINE;
-use program_words::{Said, WORD};
-use rules::MOST_MIXED;
+use program_words::{Unsaid, WORD};
 use std::io;
 use std::rt::Env;
 
-// Numbers that are kept: the tolerated R, and one result more than may be mixed.
-const KEPT: usize = MOST_MIXED + 2;
-
-// The words so far: whether each is a number, and the numbers, of which the first `count` places count.
-#[derive(Drop)]
-struct Listed {
-    plain: bool,
-    count: usize,
-    values: [u32; KEPT],
+// The numbers of the words so far and of one word more; none where a word is no number.
+#[tactic(auto, using(crate::proofs::KeepingLaws::keeping))]
+fn with_word(numbers: Option<Numbers>, word: &[u8]) -> Option<Numbers>
+    ensures { Adds word.now numbers result }
+{
+    let numbers = numbers?;
+    let x = decimal_words::number(word)?;
+    Some(numbers.with(x))
 }
 
-// No words.
-fn empty() -> Listed
-    ensures { KeptOf [] result }
+// The same where the word stands in the first `n` bytes of a buffer.
+fn with_given(numbers: Option<Numbers>, buffer: &[u8; WORD], n: usize) -> Option<Numbers>
+    ensures adds { Adds (take n buffer.now) numbers result }
+    ensures by_index { (word : List ℕ) → GivenAs word buffer.now n → Adds word numbers result }
 {
-    Listed {
-        plain: true,
-        count: 0,
-        values: [0; KEPT],
-    }
+    with_word(numbers, program_words::word(buffer, n))
 }
 
-// One word more, which stands in the first `n` bytes of a buffer.
-fn with_word(listed: Listed, buffer: &[u8; WORD], n: usize) -> Listed
-    ensures adds { Adds (take n buffer.now) listed result }
-    ensures by_index { (word : List ℕ) → GivenAs word buffer.now n → Adds word listed result }
+// What is said to numbers: the first is the tolerated R.
+#[tactic(auto, using(program_words::proofs::SayingLaws::refusal_said))]
+fn said_to_numbers(numbers: &[u32]) -> Result<bool, Unsaid>
+    ensures { test_said result ≡ said_to_numbers numbers.now }
 {
-    let count = listed.count;
-    let mut values = listed.values;
-    let number = decimal_words::number(program_words::word(buffer, n));
-    let Word::Number(x) = number else {
-        return Listed {
-            plain: false,
-            count: count,
-            values: values,
-        };
-    };
-    if KEPT <= count {
-        return listed;
-    }
-    values[count] = x;
-    Listed {
-        plain: listed.plain,
-        count: count + 1,
-        values: values,
-    }
+    let (tolerated, results) = numbers.split_first().ok_or(Unsaid::Usage)?;
+    Ok(mixing::mixable(results, *tolerated)?)
 }
 
 // What is said to the words.
-fn said_to(listed: Listed) -> Said
-    ensures { (words : List (List ℕ)) → KeptOf words listed → result ≡ said_to_mixing words }
+#[tactic(auto, using(crate::proofs::KeepingLaws::said_other, crate::proofs::KeepingLaws::said_kept))]
+fn said_to(numbers: Option<Numbers>) -> Result<bool, Unsaid>
+    ensures { (words : List (List ℕ)) → KeptOf words numbers → test_said result ≡ said_to_mixing words }
 {
-    let count = listed.count;
-    let values = listed.values;
-    if !listed.plain {
-        return Said::Usage;
-    }
-    if count == 0 {
-        return Said::Usage;
-    }
-    // No words are kept so.
-    if KEPT < count {
-        return Said::Usage;
-    }
-    let tolerated = values[0];
-    program_words::said_of(answers::mixing_answer(mixing::mixable(&values[1..count], tolerated)))
+    let numbers = numbers.ok_or(Unsaid::Usage)?;
+    said_to_numbers(numbers.as_slice())
 }
 
 // The line to the words, and its length.
-fn answer(listed: Listed, line: &mut [u8; LINE]) -> usize
-    ensures by_index { (words : List (List ℕ)) → KeptOf words listed → Laid (mixing_prints words) line.old line.new result }
+fn answer(numbers: Option<Numbers>, line: &mut [u8; LINE]) -> usize
+    ensures by_index { (words : List (List ℕ)) → KeptOf words numbers → Laid (mixing_prints words) line.old line.new result }
     ensures prefix_len { IsPrefixLen result line.new }
 {
     program_lines::verdict_line(
-        said_to(listed),
+        said_to(numbers),
         b"usage: lotmixing TOLERATED X X ..",
         b"mixable",
         b"not mixable",
@@ -98,25 +68,24 @@ fn answer(listed: Listed, line: &mut [u8; LINE]) -> usize
 }
 
 // The words so far and argument i.
-fn with_argument(rt: &impl Env, listed: Listed, i: usize) -> Listed
-    ensures { OneMore listed result }
+fn with_argument(rt: &impl Env, numbers: Option<Numbers>, i: usize) -> Option<Numbers>
+    ensures { OneMore numbers result }
 {
-    let mut buffer = program_words::word_buffer();
+    let mut buffer = buffers::zeroed::<WORD>();
     let n = buffers::word(rt, i, &mut buffer);
-    with_word(listed, &buffer, n)
+    with_given(numbers, &buffer, n)
 }
 
 // All arguments, of which there are `arguments` with the program's own name.
-fn read_words(rt: &impl Env, arguments: usize) -> Listed
+#[tactic(auto, using(crate::proofs::KeepingLaws::read_none, crate::proofs::KeepingLaws::read_more))]
+fn read_words(rt: &impl Env, arguments: usize) -> Option<Numbers>
     ensures { ReadOf (arguments - 1) result }
 {
-    let mut all = empty();
-    let mut i = 1;
-    while i < arguments {
-        all = with_argument(rt, all, i);
-        i += 1;
+    let mut numbers = Some(Numbers::none());
+    for i in 1..arguments {
+        numbers = with_argument(rt, numbers, i);
     }
-    all
+    numbers
 }
 
 fn main(rt: HostRuntime) -> io::Result<()> {

@@ -3,38 +3,39 @@ use Prim.Native.Nat.{ℕ, zero, suc, ◌≤◌, ◌<◌}
 use native.Mathlib.Omega.{arith}
 use native.Mathlib.Decide.{dec_le}
 use native.Mathlib.Nat.{le_refl}
-use mathlib.Core.Path.{◌≡◌, refl, sym, ◌∙◌}
+use mathlib.Core.Path.{◌≡◌, refl, sym, ap, ◌∙◌}
 use mathlib.Core.Bool.{Bool, true, false, true≢false}
 use mathlib.Core.List.{List}
 use lib.Dec.{ltb}
-use lib.ListN.{length, drop}
+use lib.ListN.{length, take, drop}
 use lib.Seq.{get_or-take}
 use borrow.Author.Tests.{lt-ltb, le-ltb}
+use denote.Ref.{Bor}
+use Rattle.std.specs.Prelude.{Option, Some, None, Result, Err, MatchOption}
 use Rattle.rules.specs.Choice.{pick}
 use Rattle.rules.specs.Limits.{least_reported}
-use Rattle.rules.specs.Numbers.{TextAnswer, reported_answer, wrote, refuses_text}
+use Rattle.rules.specs.Numbers.{TextAnswer, text_answer, wrote, refuses_text}
 use Rattle.rules.specs.Text.{laid, laid_in}
 use Rattle.rules.specs.Attributes.{attribute_of}
 use Rattle.rules.specs.Cards.{cut_to_rows}
-use Rattle.rules.specs.Figures.{printed_mean, row_serves, tolerated_upto}
+use Rattle.rules.specs.Figures.{figures_of, printed_mean, row_serves, tolerated_upto}
 use Rattle.rules.specs.Report.{findings_of, findings_text, report_of}
 use Rattle.rules.specs.declared.Attribute.{Attribute}
 use Rattle.rules.specs.declared.Card.{Card}
 use Rattle.rules.specs.declared.Figures.{Figures}
 use Rattle.rules.specs.declared.Fraction.{Fraction}
 use Rattle.rules.specs.declared.Findings.{Findings}
-use Rattle.rules.specs.declared.Reported.{Reported}
-use Rattle.rules.specs.declared.Reported.TheVariants.{TooFew}
+use Rattle.rules.specs.declared.Refusal.{Refusal}
+use Rattle.rules.specs.declared.Refusal.TheVariants.{TooFew}
 use Rattle.rules.proofs.TextLaws.{drop_laid}
 use Rattle.tally.specs.declared.Tally.{Tally}
 use Rattle.tally.specs.View.{view}
 use Rattle.tally.specs.Calls.{Sound}
 use Rattle.tally.proofs.Steps.{size_is_lem}
-use Rattle.findings.specs.declared.Found.{Found}
-use Rattle.findings.specs.declared.Found.TheVariants.{Reportable, NotReportable}
-use Rattle.findings.specs.Reportable.{reportable, found_of}
+use Rattle.findings.specs.Reportable.{in_order, reportable, found_of}
 use Rattle.findings.proofs.ReportableLaws.{count_in_order, reportable_enough}
 use Rattle.report.specs.Reports.{Reports}
+use Rattle.report.proofs.FigureLaws.{figures_taken}
 use Rattle.report.proofs.Sound.{walked, figures_are, sound_reportable}
 
 -- ---- the card's places past the last row do not matter
@@ -53,12 +54,29 @@ unfolding findings_of
 findings_cut a c f = simp (tolerated_cut c f.count (printed_mean a f) c.rows (le_refl c.rows))
 
 -- ---- what is found
-reportable_of : (b : Bool) (x s : Findings) → pick b (Reportable x) NotReportable ≡ Reportable s → (b ≡ true) × (x ≡ s)
-reportable_of true x s e = (refl, cc)
-reportable_of false x s e = let z : ◌≡◌ {A = ℕ} 0 1 = cc in absurd (omega arith)
+-- of the held results; nothing, where the list has not so many
+pub record Finds (t : Tally) (a : Attribute) (o : Option Findings) : Type 0 where
+  pub within : t.held ≤ length t.results → o ≡ found_of a t.card (walked t)
+  pub past : length t.results < t.held → o ≡ None
 
-not_reportable_of : (b : Bool) (x : Findings) → pick b (Reportable x) NotReportable ≡ NotReportable → b ≡ false
-not_reportable_of true x e = let z : ◌≡◌ {A = ℕ} 0 1 = cc in absurd (omega arith)
+-- the places that count, where the list has so many
+abbrev pub Front : Tally → Option (Bor (List ℕ)) → Type 0
+Front t g = MatchOption g (length t.results < t.held) (λ s. (t.held ≤ length t.results) × (s.now ≡ take t.held t.results))
+
+abbrev pub FoundOf : Tally → Attribute → Option (Bor (List ℕ)) → Option Findings → Type 0
+FoundOf t a g o = MatchOption g (o ≡ None) (λ s. o ≡ found_of a t.card (figures_of (length s.now) (in_order s.now)))
+
+pub finds : (t : Tally) (a : Attribute) (g : Option (Bor (List ℕ))) (o : Option Findings) → Front t g → FoundOf t a g o → Finds t a o
+finds t a None o h e = record { within = λ k. absurd (omega arith); past = λ k. e }
+finds t a (Some s) o h e =
+    record { within = λ k. e ∙ rw h.1 (ap (found_of a t.card) (figures_taken t.results t.held k)); past = λ k. absurd (omega arith) }
+
+reportable_of : (b : Bool) (x s : Findings) → pick b (Some x) None ≡ Some s → (b ≡ true) × (x ≡ s)
+reportable_of true x s e = (refl, cc)
+reportable_of false x s e = cc
+
+not_reportable_of : (b : Bool) (x : Findings) → pick b (Some x) None ≡ None → b ≡ false
+not_reportable_of true x e = cc
 not_reportable_of false x e = refl
 
 -- where a text is laid into a buffer, the bytes behind it stay
@@ -70,25 +88,33 @@ kept_behind t d o e = rw e (by (ltb (length d) (length t)))
     by true = refl
     by false = drop_laid t d
 
-module _ (t : Tally) (a : Attribute) (o : Found) (lot : a ≡ attribute_of t.lot.attribute) (e : o ≡ found_of a t.card (walked t)) where
+module _ (t : Tally) (a : Attribute) (o : Option Findings) (lot : a ≡ attribute_of t.lot.attribute) (e : Finds t a o) where
   -- nothing was found: a sound tally holds too few results
-  pub too_few : (before : List ℕ) → o ≡ NotReportable → Reports t before TooFew before
+  pub too_few : (before : List ℕ) → o ≡ None → Reports t before (Err TooFew) before
   too_few before q =
       record { right = λ s. rw (size_is_lem t s, lt-ltb t.held least_reported (few s (dec_le least_reported t.held))) refl; kept = refl }
     where
       few : Sound t → Dec (least_reported ≤ t.held) → t.held < least_reported
-      few s (yes h) = absurd (true≢false (sym (sound_reportable t s h) ∙ not_reportable_of _ _ (sym e ∙ q)))
+      few s (yes h) =
+          let found = e.within (omega (arith, s.small, s.values)) in
+          absurd (true≢false (sym (sound_reportable t s h) ∙ not_reportable_of _ _ (sym found ∙ q)))
       few s (no h) = omega arith
 
   -- the findings have the text of the ledger's report
-  pub written : (found : Findings) (before after : List ℕ) (r : Reported) → o ≡ Reportable found → reported_answer r after ≡ laid_in (findings_text found) before
+  pub written : (found : Findings) (before after : List ℕ) (r : Result ℕ Refusal) → o ≡ Some found
+      → text_answer r after ≡ laid_in (findings_text found) before
       → Reports t before r after
   written found before after r q l =
-      let w = reportable_of (reportable t.card (walked t)) (findings_of a t.card (walked t)) found (sym e ∙ q) in
+      let here = within (dec_le t.held (length t.results)) in
+      let w = reportable_of (reportable t.card (walked t)) (findings_of a t.card (walked t)) found (sym (e.within here) ∙ q) in
       let enough = reportable_enough t.card (walked t) w.0 in
       let many : least_reported ≤ t.held = omega (arith, count_in_order t.results t.held) in
       let text_is : Sound t → report_of (view t) ≡ findings_text found = λ s. rw (figures_are t s, findings_cut, ← lot, w.1) refl in
       record {
         right = λ s. l ∙ sym (rw (text_is s, size_is_lem t s, le-ltb t.held least_reported many) refl);
-        kept = kept_behind (findings_text found) before (reported_answer r after) l;
+        kept = kept_behind (findings_text found) before (text_answer r after) l;
       }
+    where
+      within : Dec (t.held ≤ length t.results) → t.held ≤ length t.results
+      within (yes h) = h
+      within (no h) = let none = e.past (omega arith) in cc

@@ -1,5 +1,5 @@
 -- No refusal has the number 0: it tells that a call is accepted. Assumes nothing.
-use mathlib.Core.Path.{◌≡◌, refl, sym, ap}
+use mathlib.Core.Path.{◌≡◌, refl, sym, ap, ◌∙◌}
 use mathlib.Core.Bool.{Bool, true, false, true≢false}
 use Prim.Native.Nat.{ℕ}
 use lib.Dec.{eqb}
@@ -117,3 +117,9 @@ pub answer_back : (r : Result ℕ Refusal) → answer_by (text_size r).number (t
 unfolding answer_by
 answer_back (Ok n) = refl
 answer_back (Err e) = rw (ne_eqb (number_of e) 0 (never_zero e)) (ap Err (of_number_back e))
+
+-- an answer with the number of a refusal is that refusal
+pub refusal_by_number : (r : Result ℕ Refusal) (e : Refusal) → (text_size r).number ≡ number_of e → r ≡ Err e
+unfolding answer_by
+refusal_by_number r e q =
+    sym (answer_back r) ∙ (ap (λ (n : ℕ). answer_by n (text_size r).size) q ∙ rw (ne_eqb (number_of e) 0 (never_zero e)) (ap Err (of_number_back e)))

@@ -3,10 +3,10 @@
 use mathlib.Core.Path.{◌≡◌, refl, sym, ap, ◌∙◌}
 use mathlib.Core.Bool.{Bool, true, false, true≢false}
 use mathlib.Core.List.{List}
-use Rattle.std.specs.Prelude.{Ok, Err, ⊤}
 use Prim.Native.Nat.{ℕ, ◌+◌, ◌-◌, ◌≤◌, ◌<◌}
 use native.Mathlib.Decide.{dec_le}
 use native.Mathlib.Omega.{arith}
+use Rattle.std.specs.Prelude.{Result, Ok, Err, ⊤, IsErrAnd}
 use lib.Dec.{eqb}
 use lib.ListN.{length, drop}
 use borrow.Author.Tests.{ne_eqb, lt-ltb, le-ltb}
@@ -36,8 +36,10 @@ use Rattle.result_steps.specs.Promise.{at_results, opened_state}
 use Rattle.rules.proofs.EveryStage.{at_every_stage}
 use Rattle.rules.proofs.RefusalLaws.{never_zero}
 use Rattle.head_steps.proofs.HeadLaws.{begin_step}
+use Rattle.tally.specs.declared.Tally.{Tally}
+use Rattle.sheet.specs.declared.Fault.{Fault}
 use Rattle.sheet.specs.declared.Reading.{Reading}
-use Rattle.sheet.specs.Promise.{ReadAs, Starts, read_rest, read_opened, HeadRead}
+use Rattle.sheet.specs.Promise.{ReadAs, Starts, read_rest, read_opened, HeadRead, SheetIs}
 
 bad_frame : (l : List ℕ) → all_digits l ≡ false → frame_of l ≡ Bad
 unfolding frame_of
@@ -98,14 +100,14 @@ module _ {s : List ℕ} {a n : ℕ} {f : FramedLine} (starts : Starts s a n) (h 
       ways (λ k q. absurd (z q)) (λ k q r. absurd (z r)) (λ k q e. (record { within = omega arith; first = omega arith; few = omega arith }, omega arith))
 
   -- the results begin with it
-  pub results_follow : {o : SheetOutcome} (p : Progress) (l m : Card) → o ≡ read_rest s a (state_of p l) n → is_opened p.stage ≡ false
-      → HeadEnds f.frame p l m → HeadRead o s p.lot m p.last a n
-  results_follow p l m q i e =
-      let number = open_number p.lot l in
-      let state = just_opened p.lot l p.last in
+  pub results_follow : {o : SheetOutcome} (p : Progress) (c d : Card) → o ≡ read_rest s a (state_of p c) n → is_opened p.stage ≡ false
+      → HeadEnds f.frame p c d → HeadRead o s p.lot d p.last a n
+  results_follow p c d q i e =
+      let number = open_number p.lot c in
+      let state = just_opened p.lot c p.last in
       record {
         right =
-            line_comes (state_of p l) q (begin_step p l f.frame i e.begins)
+            line_comes (state_of p c) q (begin_step p c f.frame i e.begins)
             ∙ (after_unless (eqb number 0) number n (step_of f.frame state) behind
             ∙ (ap (unless (eqb number 0) (refused number n)) (sym (line_is state))
             ∙ ap (λ (k : Card). read_opened s a p.lot k p.last n) (sym e.kept)));
@@ -133,3 +135,8 @@ module _ (s : List ℕ) (a n last : ℕ) {l : Lot} {c : Card} where
   pub open_accepted : {u : ⊤} → Opens l c (Ok u) → (ks vs : List ℕ) → read_rest s a (opened_state l c last at_results ks vs) n ≡ read_opened s a l c last n
   unfolding stored
   open_accepted answer ks vs = rw (← answer.right) refl
+
+-- ---- what `?` hands on is the fault that was given
+pub refused_as : (o : SheetOutcome) (r : Result ℕ Fault) (f : Fault) (t : Tally) → IsErrAnd r (λ g. g ≡ f) → o ≡ refused (number_of f.refusal) f.line → SheetIs o r t
+refused_as o (Ok n) f t h q = absurd h
+refused_as o (Err g) f t h q = rw h q

@@ -14,8 +14,8 @@ use Rattle.head_steps.specs.Promise.{state_of, at_first, just_opened}
 use Rattle.sheet.specs.declared.Answer.{Answer}
 use Rattle.sheet.specs.declared.Answer.TheVariants as answer
 use Rattle.sheet.specs.declared.Reading.{Reading}
-use Rattle.sheet.specs.declared.LineFault.{LineFault}
-use Rattle.sheet.specs.declared.Begin.{Begin}
+use Rattle.sheet.specs.declared.Fault.{Fault}
+use Rattle.sheet.specs.declared.ResultsBegin.{ResultsBegin}
 use Rattle.sheet.specs.declared.Ended.{Ended}
 
 -- an answer and its tally, as the definition has them
@@ -60,8 +60,8 @@ pub record HeadRead (o : SheetOutcome) (s : List ℕ) (l : Lot) (c : Card) (last
   pub starts : Starts s a n
 
 -- r is what the lines of lot and card of the sheet s come to, with the card c before them and d after them
-abbrev pub HeadLinesAre : List ℕ → Card → Result Begin LineFault → Card → Type 0
-HeadLinesAre s c (Ok b) d = HeadRead (read_with s c) s b.progress.lot d b.progress.last b.at b.line
+abbrev pub HeadLinesAre : List ℕ → Card → Result ResultsBegin Fault → Card → Type 0
+HeadLinesAre s c (Ok b) d = HeadRead (read_with s c) s b.head.lot d b.head.last b.at b.line
 HeadLinesAre s c (Err f) d = read_with s c ≡ refused (number_of f.refusal) f.line
 
 -- a sheet whose outcome is o ends: t is its tally
@@ -70,6 +70,11 @@ pub record ResultsRead (o : SheetOutcome) (t : Tally) (lines : ℕ) : Type 0 whe
   pub sound : Sound t
 
 -- r is what the lines of results come to, with these lists after them
-abbrev pub ResultLinesAre : SheetOutcome → Lot → Card → Result Ended LineFault → List ℕ → List ℕ → Type 0
+abbrev pub ResultLinesAre : SheetOutcome → Lot → Card → Result Ended Fault → List ℕ → List ℕ → Type 0
 ResultLinesAre o l c (Ok e) ks vs = ResultsRead o (tally_of l c ks vs e.held) e.lines
 ResultLinesAre o l c (Err f) ks vs = o ≡ refused (number_of f.refusal) f.line
+
+-- r is what a sheet whose outcome is o comes to, with the tally t after it
+abbrev pub SheetIs : SheetOutcome → Result ℕ Fault → Tally → Type 0
+SheetIs o (Ok lines) t = ResultsRead o t lines
+SheetIs o (Err f) t = o ≡ refused (number_of f.refusal) f.line

@@ -1,6 +1,8 @@
 -- `judge::judge` meets its contract.
-use mathlib.Core.Path.{refl}
+use mathlib.Core.Path.{refl, sym, ap, ◌∙◌}
+use Prim.Native.Nat.{ℕ}
 use borrow.Author.Tests.{eqb-false}
+use Rattle.rules.specs.Numbers.{refuses_text}
 use Rattle.judge.proofs.Judging.{judged_refused, judged_text, judged_few}
 use Rattle.judge.proofs.judge.Goals as goal
 
@@ -8,17 +10,14 @@ pub returns-in-Refused : goal.returns-in-Refused
 returns-in-Refused c =
     judged_refused _ _ c.read-reading.ensures c.in-Refused.is c.print_refused.ensures
 
-pub returns-in-Length : goal.returns-in-Length
-returns-in-Length c =
-    let length = c.in-Length.ensures in
-    judged_text _ _ c.read-reading.ensures c.in-Accepted.is length (eqb-false 0 15 refl)
+pub returns-in-Ok : goal.returns-in-Ok
+returns-in-Ok c = judged_text _ _ c.read-reading.ensures c.in-Accepted.is c.in-Ok.ensures (eqb-false 0 15 refl)
 
-pub returns-in-TooFew : goal.returns-in-TooFew
-returns-in-TooFew c =
-    let few = c.in-TooFew.ensures in
-    judged_few _ _ c.read-reading.ensures c.in-Accepted.is few refl c.print_refused-in-TooFew.ensures
+pub returns-then-number : goal.returns-then-number
+returns-then-number c =
+    let few = sym c.number.ensures ∙ (c.if-number.true ∙ c.number-in-Err.ensures) in
+    judged_few _ _ c.read-reading.ensures c.in-Accepted.is c.in-Err.ensures (ap (λ (n : ℕ). refuses_text n c.report.new.buf) few) c.print_refused-then-number.ensures
 
-pub returns-in-BufferShort : goal.returns-in-BufferShort
-returns-in-BufferShort c =
-    let short = c.in-BufferShort.ensures in
-    judged_text _ _ c.read-reading.ensures c.in-Accepted.is short (eqb-false 16 15 refl)
+pub returns-else-number : goal.returns-else-number
+returns-else-number c =
+    judged_text _ _ c.read-reading.ensures c.in-Accepted.is c.in-Err.ensures (λ q. c.if-number.false (c.number.ensures ∙ (q ∙ sym c.number-in-Err.ensures)))

@@ -3,11 +3,4 @@ use Rattle.lotmixing.specs.Listing.{ReadOf}
 use Rattle.lotmixing.proofs.read_words.Given as goal
 
 abbrev pub invariant-loop-i : goal.invariant-loop-i
-invariant-loop-i g l = record {
-  begun : 1 ≤ l.i;
-  within : l.i - 1 ≤ l.arguments - 1;
-  read : ReadOf (l.i - 1) l.all;
-}
-
-abbrev pub decreases-loop-i : goal.decreases-loop-i
-decreases-loop-i g l = l.arguments - l.i
+invariant-loop-i g l = record { within : l.i - 1 ≤ l.arguments - 1; read : ReadOf (l.i - 1) l.numbers }

@@ -7,5 +7,5 @@ use Rattle.lotreport.proofs.answer.Goals as goal
 pub returns : goal.returns
 unfolding printed_for
 returns c =
-    let laid = laid_text _ _ _ c.judge-printed.result _ c.printed_size.ensures c.judge-printed.ensures (omega (arith, printed_most c.sheet_of.result.now)) c.judge-printed.auto.buf in
+    let laid = laid_text _ _ _ c.judge.result _ c.unwrap_or.ensures c.judge.ensures (omega (arith, printed_most c.sheet_of.result.now)) c.judge.auto.buf in
     record { by_index = λ input begins. rw (c.sheet_of.ensures input begins) at laid.0; prefix_len = laid.1 }

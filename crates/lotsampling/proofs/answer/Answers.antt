@@ -1,6 +1,7 @@
 use Rattle.std.proofs.Common.{rules, arith}
 use Rattle.rules.specs.Text.{text, decimal}
 use Rattle.rules.proofs.TextLaws.{length_decimal}
+use Rattle.program_words.specs.Saying.{number_said}
 use Rattle.program_lines.specs.Printing.{sampling_prints}
 use Rattle.program_lines.proofs.LineLaws.{line_answers}
 use Rattle.lotsampling.proofs.answer.Goals as goal
@@ -8,6 +9,6 @@ use Rattle.lotsampling.proofs.answer.Goals as goal
 pub returns-clause-by_index : goal.returns-clause-by_index
 unfolding sampling_prints
 returns-clause-by_index c =
-    let line = line_answers (text "usage: lotsampling CONTAINERS KILOGRAMS") decimal c.said_to-said.result c.number_line.ensures (search rules) (omega arith)
+    let line = line_answers (text "usage: lotsampling CONTAINERS KILOGRAMS") decimal (number_said c.said_to-said.result) c.number_line.ensures (search rules) (omega arith)
     (λ v. omega (arith, length_decimal v)) in
     λ v w g h. line.0 _ (rw (c.two_numbers.ensures, c.word-v.ensures.by_index v g, c.word-w.ensures.by_index w h) at c.said_to-said.ensures)

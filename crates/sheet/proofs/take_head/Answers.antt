@@ -7,7 +7,7 @@ use Rattle.sheet.proofs.take_head.Goals as goal
 pub loop-at-init : goal.loop-at-init
 unfolding read_rest
 loop-at-init c =
-    (record { within = omega arith; first = omega arith; few = omega arith }, rw c.start-progress.ensures refl, rw c.start-progress.ensures refl)
+    (record { within = omega arith; first = omega arith; few = omega arith }, rw c.start-p.ensures refl, rw c.start-p.ensures refl)
 
 pub overflow_add-at : goal.overflow_add-at
 overflow_add-at c =
@@ -33,8 +33,7 @@ loop-at-preserved c =
 pub returns-in-Ok-None : goal.returns-in-Ok-None
 returns-in-Ok-None c =
     let loop = c.loop-at in
-    let ends = rw c.in-Ok-None.field-0-is at c.in-Ok-None.ensures in
-    results_follow loop.invariant.0 c.loop-at-test.true c.line_at-head_line.ensures _ _ _ loop.invariant.2 loop.invariant.1 ends
+    results_follow loop.invariant.0 c.loop-at-test.true c.line_at-head_line.ensures _ _ _ loop.invariant.2 loop.invariant.1 (rw c.in-Ok-None.field-0-is at c.in-Ok-None.ensures)
 
 pub returns-in-Err : goal.returns-in-Err
 returns-in-Err c =
@@ -44,4 +43,4 @@ returns-in-Err c =
 pub returns : goal.returns
 returns c =
     let loop = c.loop-at in
-    loop.invariant.2 ∙ rest_none loop.invariant.0 c.loop-at-test.false _ false (unended loop.progress.stage loop.invariant.1)
+    loop.invariant.2 ∙ rest_none loop.invariant.0 c.loop-at-test.false _ false (unended loop.p.stage loop.invariant.1)

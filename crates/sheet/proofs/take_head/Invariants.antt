@@ -10,8 +10,8 @@ use Rattle.sheet.proofs.take_head.Given as goal
 
 abbrev pub invariant-loop-at : goal.invariant-loop-at
 invariant-loop-at l =
-    Starts l.sheet l.at l.line × (is_opened l.progress.stage ≡ false)
-    × (read_with l.sheet l.initial.card ≡ read_rest l.sheet l.at (state_of l.progress l.card) l.line)
+    Starts l.sheet l.at l.line × (is_opened l.p.stage ≡ false)
+    × (read_with l.sheet l.initial.card ≡ read_rest l.sheet l.at (state_of l.p l.card) l.line)
 
 abbrev pub decreases-loop-at : goal.decreases-loop-at
 decreases-loop-at l = length l.sheet - l.at
