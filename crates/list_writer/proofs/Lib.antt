@@ -1,5 +1,3 @@
-pub mod Nexts
-pub mod Pieces
-pub mod Lengths
-pub mod Ascending
+pub mod Lines
+pub mod Ordered
 pub mod ListLength
