@@ -9,6 +9,7 @@ use Rattle.rules.specs.ListReading.{Listed, list_on}
 use Rattle.rules.specs.declared.Fault.{Fault}
 use Rattle.rules.specs.declared.Place.{Place}
 use Rattle.rules.specs.declared.Place.TheVariants as place
+use Rattle.rules.specs.declared.Refusal.{Refusal}
 
 -- What such a call is answered: the refusal's number, 0 for none, with the file and the line of a fault in a text, else 0 and 0; the
 -- length of the sheet after it; and the whole buffer afterwards.
@@ -37,6 +38,10 @@ abbrev pub line_of : Place → ℕ
 line_of place.Call = 0
 line_of (place.Sheet line) = line
 line_of (place.List line) = line
+
+-- a refusal of the call itself, which stands in no line
+abbrev pub in_call : Refusal → Fault
+in_call e = record { refusal = e; place = place.Call }
 
 -- the code's answer, and the buffer afterwards
 abbrev pub on_sheet_answer : Result ℕ Fault → List ℕ → SheetAnswer

@@ -65,7 +65,8 @@ impl Attribute {
         }
     }
 
-    // How many units of the mean's last place make one unit of X.
+    // How many units of the mean's last place make one unit of X: ten to the places that the mean has more. A table beside the one
+    // above is plainer than a power of ten and the law that the two go together.
     #[tactic(auto, unfolding(crate::specs::Attributes::mean_scale))]
     pub fn mean_scale(self, n: u16) -> u16
         ensures { (result ≡ mean_scale self n) × (result ≤ 100) }

@@ -1,8 +1,21 @@
-// The file and the line where a fault of a call on a sheet stands, as they are printed: the sheet is file 1, the list file 2.
+// A refusal as a fault; and the file and the line where a fault of a call on a sheet stands, as they are printed: the sheet is file 1,
+// the list file 2.
 ghost use Rattle.std.specs.Prelude.{◌≡◌};
-ghost use Rattle.rules.specs.OnSheets.{file_of, line_of};
+ghost use Rattle.rules.specs.OnSheets.{in_call, file_of, line_of};
 
-use crate::Place;
+use crate::{Fault, Place, Refusal};
+
+// A refusal of the call itself stands in no line.
+impl From<Refusal> for Fault {
+    ghost from_gives = { λ refusal fault. fault ≡ in_call refusal };
+
+    fn from(refusal: Refusal) -> Fault {
+        Fault {
+            refusal,
+            place: Place::Call,
+        }
+    }
+}
 
 impl Place {
     pub fn file(self) -> u32

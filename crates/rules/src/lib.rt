@@ -130,7 +130,8 @@ pub enum Stage {
     End,
 }
 
-// What a line of a sheet says (document 01's term: a frame).
+// What a line of a sheet says (document 01's term: a frame). `Bad` stands among the kinds, as in the definitions: a frame or none would
+// be no plainer, since each match has one arm for it either way.
 #[derive(Clone, Copy)]
 pub enum Frame {
     Bad,
@@ -174,7 +175,7 @@ pub struct Pans {
     pub remainder: f32,
 }
 
-// What the balance says of one pan: an overload has no weight.
+// What the balance says of one pan: an overload has no weight. Document 01 names this form.
 #[derive(Clone, Copy)]
 pub enum Reading {
     Steady(f32),
@@ -259,7 +260,8 @@ pub struct Findings {
     pub judgement: Option<Judgement>,
 }
 
-// Where a fault of a call on a sheet stands: in the call itself, or in a line of the sheet or of the list.
+// Where a fault of a call on a sheet stands: in the call itself, or in a line of the sheet or of the list. No `Option`: of two files a
+// line can be in, and each is printed with a number of its own.
 #[derive(Clone, Copy)]
 pub enum Place {
     Call,
@@ -267,7 +269,8 @@ pub enum Place {
     List(usize),
 }
 
-// What a call on a sheet is refused with, and where the fault stands.
+// What a call on a sheet is refused with, and where the fault stands: the error of a `Result`. The refusals of calls that read no line
+// have no place, so that one beside every refusal would be no plainer.
 #[derive(Clone, Copy)]
 pub struct Fault {
     pub refusal: Refusal,
