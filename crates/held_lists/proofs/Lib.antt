@@ -1,4 +1,3 @@
 pub mod Stored
 pub mod InOrder
 pub mod Meeting
-pub mod Laying

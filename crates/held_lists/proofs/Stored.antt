@@ -6,16 +6,18 @@ use native.Mathlib.Decide.{ℕ_discrete, dec_lt}
 use mathlib.Core.Bool.{Bool, true, false, not, ◌&&◌, ◌||◌}
 use mathlib.Core.Path.{◌≡◌, refl, sym, ap, ◌∙◌, subst}
 use mathlib.Core.List.{List}
-use lib.ListN.{length, get_or, set}
+use lib.ListN.{length, get_or, set, take}
 use lib.Dec.{eqb, ltb}
-use lib.Seq.{get_or-set_same, get_or-set_other, set-get_or}
+use lib.Seq.{get_or-set_same, get_or-set_other, set-get_or, get_or-take}
 use borrow.Author.Count.{below_more}
 use borrow.Author.Tests.{eq-eqb, ne_eqb, eqb-false, lt-ltb, le-ltb, not-true}
 use Rattle.rules.specs.Choice.{pick}
 use Rattle.rules.specs.Contents.{Content, Contents, free, holds, put, is_held, total, one, size}
 use Rattle.rules.proofs.Tests.{and_left, and_right, or_false}
 use Rattle.rules.proofs.ContentLaws.{put_other, put_self, put_put, put_comm, total_put, total_none}
-use Rattle.held_lists.specs.Places.{stored, Apart, Without, FoundAt}
+use Rattle.std.specs.Prelude.{Option, Some, None, MatchOption, HoldsAt}
+use Rattle.std.specs.List.{AllWithin}
+use Rattle.held_lists.specs.Places.{stored, Apart, Without, FoundAt, Found}
 
 -- a place more that was looked at, where those before it had no k if their tests say so
 pub without_more : (l : List ℕ) (k n : ℕ) (b : Bool) → (b ≡ true → Without l n k) → b && not (eqb (get_or l n 0) k) ≡ true → Without l (n + 1) k
@@ -68,6 +70,19 @@ found_held ks vs n k r f = go (dec_lt r n)
     go : Dec (r < n) → ltb r n ≡ is_held (stored ks vs n k)
     go (yes h) = lt-ltb r n h ∙ sym (stored_held ks vs n k r h (f.here h))
     go (no g) = le-ltb r n (omega arith) ∙ sym (ap is_held (stored_free ks vs n k (λ i h. f.before i (omega (arith, f.within)))))
+
+-- what a look from the first place on finds
+pub found_first : (l : List ℕ) (k : ℕ) (r : Option ℕ)
+    → MatchOption r (AllWithin (λ x. x ≡ k → ⊥) l 0 (length l)) (λ i. (i < length l) × HoldsAt (λ x. x ≡ k) l i × AllWithin (λ x. x ≡ k → ⊥) l 0 i)
+    → Found l k r
+found_first l k None h = λ i a. h i 0 (omega arith) a
+found_first l k (Some i) h = (h.0, record { within = omega (arith, h.0); before = λ j a. h.2 j 0 (omega arith) a; here = λ a. h.1 0 })
+
+-- the places that count are those of the list that is cut to them
+pub stored_cut : (ks vs : List ℕ) (m n : ℕ) → n ≤ m → stored (take m ks) vs n ≡ stored ks vs n
+unfolding stored
+stored_cut ks vs m zero h = refl
+stored_cut ks vs m (suc n) h = simp (get_or-take m ks n 0 (omega arith), stored_cut ks vs m n (omega arith))
 
 -- a store past the first n places
 pub stored_frame : (ks vs : List ℕ) (n j k v : ℕ) → n ≤ j → stored (set ks j k) (set vs j v) n ≡ stored ks vs n

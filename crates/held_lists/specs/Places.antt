@@ -1,6 +1,5 @@
 -- What the lists of a tally stand for, the containers and the results, and what the calls on them promise.
-use Rattle.std.specs.Prelude.{ℕ, zero, suc, ◌+◌, ◌-◌, ◌≤◌, ◌<◌, min, ◌≡◌, Bool, false, ◌||◌, List, get_or, set}
-use Rattle.rules.specs.Limits.{most_held}
+use Rattle.std.specs.Prelude.{ℕ, zero, suc, ◌+◌, ◌≤◌, ◌<◌, ◌≡◌, Bool, false, ◌||◌, List, length, get_or, Option, Some, None}
 use Rattle.rules.specs.Contents.{Contents, free, holds, none, put, is_held}
 use Rattle.rules.specs.Range.{IsRange}
 use Rattle.rules.specs.declared.Range.{Range}
@@ -40,22 +39,12 @@ pub record FoundAt (l : List ℕ) (n k r : ℕ) : Type 0 where
   pub before : Without l r k
   pub here : r < n → get_or l r 0 ≡ k
 
+-- r is the first place of l that has k, or none where none has
+abbrev pub Found : List ℕ → ℕ → Option ℕ → Type 0
+Found l k (Some r) = (r < length l) × FoundAt l (length l) k r
+Found l k None = Without l (length l) k
+
 -- whether one of the first m containers of l is held
 unfoldable pub meets : Contents → List ℕ → ℕ → Bool
 meets f l zero = false
 meets f l (suc m) = meets f l m || is_held (f (get_or l m 0))
-
--- l, behind its first n places the first m of o
-unfoldable pub laid : List ℕ → ℕ → List ℕ → ℕ → List ℕ
-laid l n o zero = l
-laid l n o (suc m) = set (laid l n o m) (n + m) (get_or o m 0)
-
--- how many of m there is room for behind n
-abbrev pub fitting : ℕ → ℕ → ℕ
-fitting n m = min m (most_held - n)
-
--- Behind the first n places of ks and vs lie the first of os and ws, as many of m as there is room for; r places count then.
-pub record LaidBehind (ks vs : List ℕ) (n : ℕ) (os ws : List ℕ) (m r : ℕ) (ks' vs' : List ℕ) : Type 0 where
-  pub keys : ks' ≡ laid ks n os (fitting n m)
-  pub values : vs' ≡ laid vs n ws (fitting n m)
-  pub count : r ≡ n + fitting n m

@@ -6,21 +6,19 @@ ghost use Rattle.rules.specs.Numbers.{text_answer};
 ghost use Rattle.rules.specs.Printing.{print_on};
 
 use rules::Refusal;
-use sheet::Answer;
 
 // What lotreport prints for a sheet: the report of its tally, or the line of its first fault. A sheet with too few results is
 // refused at its last line, that of the 06 frame.
 pub fn judge(sheet: &[u8], buf: &mut [u8]) -> Result<usize, Refusal>
     ensures { text_answer result buf.new ≡ print_on sheet.now buf.old }
 {
-    let reading = sheet::read(sheet);
-    match reading.answer {
-        Answer::Refused(e, line) => refusal_lines::print_refused(buf, e, line),
-        Answer::Accepted(lines) => match report::report(reading.tally, buf) {
+    match sheet::read(sheet) {
+        Err(fault) => refusal_lines::print_refused(buf, fault.refusal, fault.place.line()),
+        Ok(reading) => match report::report(reading.tally, buf) {
             Ok(size) => Ok(size),
             Err(refusal) => {
                 if refusal.number() == Refusal::TooFew.number() {
-                    refusal_lines::print_refused(buf, Refusal::TooFew, lines)
+                    refusal_lines::print_refused(buf, Refusal::TooFew, reading.lines)
                 } else {
                     Err(refusal)
                 }

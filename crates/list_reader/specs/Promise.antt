@@ -1,44 +1,55 @@
 -- What the reading of a comma list into a tally promises.
-use Rattle.std.specs.Prelude.{◌≡◌, List, ℕ, ◌<◌, eqb, Option, Result, ⊤}
-use Rattle.rules.specs.Choice.{pick}
+use Rattle.std.specs.Prelude.{◌≡◌, List, ℕ, ◌<◌, Option, Result, Ok, Err, ⊤}
 use Rattle.rules.specs.Limits.{most_held}
-use Rattle.rules.specs.Numbers.{number_in}
+use Rattle.rules.specs.Numbers.{number_of, number_in}
 use Rattle.rules.specs.Ledger.{Ledger}
 use Rattle.rules.specs.ListReading.{Listed, list_on}
-use Rattle.rules.specs.declared.Lot.{Lot}
-use Rattle.rules.specs.declared.Card.{Card}
+use Rattle.rules.specs.OnSheets.{file_of, line_of}
+use Rattle.rules.specs.declared.Fault.{Fault}
 use Rattle.rules.specs.declared.Refusal.{Refusal}
 use Rattle.list_lines.specs.Lines.{entry_on}
 use Rattle.list_lines.specs.declared.Entry.{Entry}
-use Rattle.tally.specs.View.{tally_of, outcome_of, view}
-use Rattle.tally.specs.Calls.{Sound, Answers, held_after}
+use Rattle.tally.specs.View.{outcome_of, view}
+use Rattle.tally.specs.Calls.{Sound, Answers}
 use Rattle.tally.specs.declared.Tally.{Tally}
-use Rattle.list_reader.specs.declared.Taken.{Taken}
-use Rattle.list_reader.specs.declared.Listing.{Listing}
 
--- an answer as the definition has it
-abbrev pub listed : Listing → Listed
-listed r = record { number = number_in r.answer; line = r.line; ledger = view r.tally }
+-- an answer, with the ledger after it, as the definition has it: accepted with line 0, or what the list's first faulty line is refused with
+-- and that line's number
+abbrev pub listed : Result ⊤ Fault → Ledger → Listed
+listed (Ok _) g = record { number = 0; line = 0; ledger = g }
+listed (Err f) g = record { number = number_of f.refusal; line = line_of f.place; ledger = g }
+
+-- a fault is one of the list
+abbrev pub in_list : Result ⊤ Fault → Type 0
+in_list (Ok _) = Unit
+in_list (Err f) = file_of f.place ≡ 2
+
+-- a refused list leaves the tally u as it was, t
+abbrev pub unchanged : Result ⊤ Fault → Tally → Tally → Type 0
+unchanged (Ok _) t u = Unit
+unchanged (Err f) t u = u ≡ t
 
 -- The list s read into t: number, line and ledger are those of the definition where t is sound. A refused list leaves the very tally,
 -- on any tally.
-pub record Lists (t : Tally) (s : List ℕ) (r : Listing) : Type 0 where
-  pub kept : (number_in r.answer ≡ 0 → ⊥) → r.tally ≡ t
-  pub right : Sound t → listed r ≡ list_on (view t) s
-  pub sound : Sound t → Sound r.tally
+pub record Lists (t : Tally) (s : List ℕ) (e : Result ⊤ Fault) (u : Tally) : Type 0 where
+  pub kept : unchanged e t u
+  pub right : Sound t → listed e (view u) ≡ list_on (view t) s
+  pub sound : Sound t → Sound u
+  pub file : in_list e
 
--- ---- on the lists of a tally, whatever its card
+-- ---- one line after another
 -- a line
-pub record EntersEntry (l : Lot) (ks vs : List ℕ) (n : ℕ) (t : Option Entry) (e : Result ⊤ Refusal) (ks' vs' : List ℕ) : Type 0 where
-  pub room : number_in e ≡ 0 → n < most_held
-  pub answers : (c : Card) → let u = tally_of l c ks vs n in
-      Answers (Sound u) u (entry_on (view u) t) (outcome_of e (tally_of l c ks' vs' (held_after e n)))
+pub record EntersEntry (t : Tally) (n : Option Entry) (e : Result ⊤ Refusal) (u : Tally) : Type 0 where
+  pub room : number_in e ≡ 0 → t.held < most_held
+  pub answers : Answers (Sound t) t (entry_on (view t) n) (outcome_of e u)
 
--- what the lines that were taken say of the list, on the ledger `was`, where that of the lists afterwards is `after`
-unfoldable pub told_by : Taken → Ledger → Ledger → Listed
-told_by r was after = record { number = number_in r.answer; line = r.line; ledger = pick (eqb (number_in r.answer) 0) after was }
+-- what the lines that were taken say of the list on the ledger `was`, where that of the tally afterwards is `after`
+unfoldable pub told_by : Result ⊤ Fault → Ledger → Ledger → Listed
+told_by (Ok a) was after = listed (Ok a) after
+told_by (Err f) was after = listed (Err f) was
 
 -- the lines of the list s
-pub record Takes (l : Lot) (ks vs : List ℕ) (n : ℕ) (s : List ℕ) (r : Taken) (ks' vs' : List ℕ) : Type 0 where
-  pub right : (c : Card) → Sound (tally_of l c ks vs n) → list_on (view (tally_of l c ks vs n)) s ≡ told_by r (view (tally_of l c ks vs n)) (view (tally_of l c ks' vs' r.held))
-  pub sound : (c : Card) → Sound (tally_of l c ks vs n) → Sound (tally_of l c ks' vs' r.held)
+pub record Takes (t : Tally) (s : List ℕ) (e : Result ⊤ Fault) (u : Tally) : Type 0 where
+  pub right : Sound t → list_on (view t) s ≡ told_by e (view t) (view u)
+  pub sound : Sound t → Sound u
+  pub file : in_list e

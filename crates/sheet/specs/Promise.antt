@@ -5,34 +5,31 @@ use Rattle.rules.specs.Numbers.{number_of}
 use Rattle.rules.specs.Cards.{open_number}
 use Rattle.rules.specs.Lines.{lines_of}
 use Rattle.rules.specs.Reading.{State, SheetOutcome, accepted, refused, read_from}
+use Rattle.rules.specs.OnSheets.{file_of, line_of}
+use Rattle.rules.specs.declared.Fault.{Fault}
 use Rattle.rules.specs.declared.Lot.{Lot}
 use Rattle.rules.specs.declared.Card.{Card}
-use Rattle.tally.specs.View.{tally_of, view}
-use Rattle.tally.specs.Calls.{Sound, fresh_tally}
+use Rattle.tally.specs.View.{view}
+use Rattle.tally.specs.Calls.{Sound}
 use Rattle.tally.specs.declared.Tally.{Tally}
 use Rattle.head_steps.specs.Promise.{state_of, at_first, just_opened}
-use Rattle.sheet.specs.declared.Answer.{Answer}
-use Rattle.sheet.specs.declared.Answer.TheVariants as answer
 use Rattle.sheet.specs.declared.Reading.{Reading}
-use Rattle.sheet.specs.declared.Fault.{Fault}
 use Rattle.sheet.specs.declared.ResultsBegin.{ResultsBegin}
-use Rattle.sheet.specs.declared.Ended.{Ended}
 
--- an answer and its tally, as the definition has them
-abbrev pub outcome_of : Answer → Tally → SheetOutcome
-outcome_of (answer.Accepted lines) t = accepted (view t) lines
-outcome_of (answer.Refused e line) t = refused (number_of e) line
+-- the fault f is what a sheet whose outcome is o is refused with: its number, and its line, which is one of the sheet
+pub record FaultOf (o : SheetOutcome) (f : Fault) : Type 0 where
+  pub right : o ≡ refused (number_of f.refusal) (line_of f.place)
+  pub file : file_of f.place ≡ 1
 
--- on a refusal there is no tally: the one handed back is fresh
-abbrev pub empty_on : Answer → Tally → Type 0
-empty_on (answer.Accepted lines) t = Unit
-empty_on (answer.Refused e line) t = t ≡ fresh_tally
+-- a sheet whose outcome is o has the tally t and so many lines
+pub record TallyOf (o : SheetOutcome) (t : Tally) (lines : ℕ) : Type 0 where
+  pub right : o ≡ accepted (view t) lines
+  pub sound : Sound t
 
--- the sheet is read as o
-pub record ReadAs (o : SheetOutcome) (r : Reading) : Type 0 where
-  pub right : outcome_of r.answer r.tally ≡ o
-  pub sound : Sound r.tally
-  pub empty : empty_on r.answer r.tally
+-- A sheet whose outcome is o is read as r; on a refusal there is no tally.
+abbrev pub ReadAs : SheetOutcome → Result Reading Fault → Type 0
+ReadAs o (Ok r) = TallyOf o r.tally r.lines
+ReadAs o (Err f) = FaultOf o f
 
 -- ---- a sheet from a place on
 -- what the sheet s comes to, read from a on in the state t, where the n-th line starts
@@ -62,19 +59,9 @@ pub record HeadRead (o : SheetOutcome) (s : List ℕ) (l : Lot) (c : Card) (last
 -- r is what the lines of lot and card of the sheet s come to, with the card c before them and d after them
 abbrev pub HeadLinesAre : List ℕ → Card → Result ResultsBegin Fault → Card → Type 0
 HeadLinesAre s c (Ok b) d = HeadRead (read_with s c) s b.head.lot d b.head.last b.at b.line
-HeadLinesAre s c (Err f) d = read_with s c ≡ refused (number_of f.refusal) f.line
+HeadLinesAre s c (Err f) d = FaultOf (read_with s c) f
 
--- a sheet whose outcome is o ends: t is its tally
-pub record ResultsRead (o : SheetOutcome) (t : Tally) (lines : ℕ) : Type 0 where
-  pub right : o ≡ accepted (view t) lines
-  pub sound : Sound t
-
--- r is what the lines of results come to, with these lists after them
-abbrev pub ResultLinesAre : SheetOutcome → Lot → Card → Result Ended Fault → List ℕ → List ℕ → Type 0
-ResultLinesAre o l c (Ok e) ks vs = ResultsRead o (tally_of l c ks vs e.held) e.lines
-ResultLinesAre o l c (Err f) ks vs = o ≡ refused (number_of f.refusal) f.line
-
--- r is what a sheet whose outcome is o comes to, with the tally t after it
-abbrev pub SheetIs : SheetOutcome → Result ℕ Fault → Tally → Type 0
-SheetIs o (Ok lines) t = ResultsRead o t lines
-SheetIs o (Err f) t = o ≡ refused (number_of f.refusal) f.line
+-- r is what the lines of results come to, with the tally t after them
+abbrev pub ResultLinesAre : SheetOutcome → Result ℕ Fault → Tally → Type 0
+ResultLinesAre o (Ok lines) t = TallyOf o t lines
+ResultLinesAre o (Err f) t = FaultOf o f

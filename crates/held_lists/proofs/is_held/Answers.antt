@@ -2,12 +2,11 @@
 use mathlib.Core.Path.{refl}
 use Rattle.held_lists.specs.Places.{stored}
 use Rattle.held_lists.proofs.Stored.{held_turn}
-use borrow.Author.Rules.{rules}
 use Rattle.held_lists.proofs.is_held.Goals as goal
 
-pub loop-place-init : goal.loop-place-init
+pub loop-container-init : goal.loop-container-init
 unfolding stored
-loop-place-init c = (search rules, λ vs. refl)
+loop-container-init c = λ vs. refl
 
-pub loop-place-preserved : goal.loop-place-preserved
-loop-place-preserved c = (search rules, λ vs. held_turn _ vs _ _ (c.loop-place.invariant.1 vs))
+pub loop-container-preserved : goal.loop-container-preserved
+loop-container-preserved c = λ vs. held_turn _ vs _ _ (c.loop-container.invariant vs)

@@ -1,13 +1,10 @@
 -- `held_lists::meet` meets its promise: the loop keeps whether one of the places passed is held. Assumes nothing.
-use Prim.Native.Nat.{ℕ, ◌≤◌, ◌-◌, min}
 use mathlib.Core.List.{List}
 use mathlib.Core.Path.{◌≡◌}
-use Rattle.rules.specs.Limits.{most_held}
+use Prim.Native.Nat.{ℕ}
+use lib.ListN.{length}
 use Rattle.held_lists.specs.Places.{stored, meets}
 use Rattle.held_lists.proofs.meet.Given as goal
 
-abbrev pub invariant-loop-j : goal.invariant-loop-j
-invariant-loop-j l = (l.j ≤ min l.m most_held) × ((vs : List ℕ) → l.found ≡ meets (stored l.l vs (min l.n most_held)) l.o l.j)
-
-abbrev pub decreases-loop-j : goal.decreases-loop-j
-decreases-loop-j l = most_held - l.j
+abbrev pub invariant-loop-other : goal.invariant-loop-other
+invariant-loop-other l = (vs : List ℕ) → l.found ≡ meets (stored l.containers vs (length l.containers)) l.others l.other-index

@@ -1,32 +1,41 @@
 -- `held_lists::range_of` meets its promise: the loop keeps the two ends of the places passed. Assumes nothing.
-use Prim.Native.Nat.{◌+◌, min, max}
+use Prim.Native.Nat.{◌+◌, ◌≤◌, min, max}
 use mathlib.Core.Path.{◌≡◌, refl, ◌∙◌}
 use native.Mathlib.Omega.{arith}
-use Rattle.rules.specs.Limits.{most_held}
+use lib.ListN.{get_or, length, take}
+use lib.Seq.{get_or-take, length-take-le}
+use Rattle.rules.specs.Limits.{most_held, widest}
 use Rattle.rules.specs.Contents.{smallest, largest}
 use Rattle.held_lists.specs.Places.{in_order}
 use Rattle.held_lists.proofs.InOrder.{smallest_turn, largest_turn, range_read}
 use borrow.Author.Rules.{rules}
 use Rattle.held_lists.proofs.range_of.Goals as goal
 
-pub loop-read-init : goal.loop-read-init
+pub loop-x-init : goal.loop-x-init
 unfolding smallest largest
-loop-read-init c = (search rules, refl, refl, omega arith)
+loop-x-init c = (refl, refl, omega arith)
 
-pub loop-read-preserved : goal.loop-read-preserved
-loop-read-preserved c =
-    let x = c.widened-x in
-    let l = c.loop-read in
+pub loop-x-preserved : goal.loop-x-preserved
+loop-x-preserved c =
+    let l = c.loop-x in
     let vs = c.args.results.now in
-    let low : min l.smallest x.result ≡ smallest (l.read + 1) (in_order vs) = rw (l.invariant.1, x.ensures.0) (smallest_turn vs l.read) in
-    let high : max l.largest x.result ≡ largest (l.read + 1) (in_order vs) = rw (l.invariant.2, x.ensures.0) (largest_turn vs l.read) in
-    let least : c.min-smallest.result ≡ min l.smallest x.result = search rules in
-    let most : c.max-largest.result ≡ max l.largest x.result = search rules in
-    (search rules, least ∙ low, most ∙ high, omega (arith, most, x.ensures.1))
+    let all : length (take c.min-held.result vs) ≡ c.min-held.result = length-take-le c.min-held.result vs (search rules) in
+    let here : get_or (take c.min-held.result vs) l.x-index 0 ≡ get_or vs l.x-index 0 = get_or-take c.min-held.result vs l.x-index 0 (omega (arith, all)) in
+    let x : c.from.result ≡ get_or vs l.x-index 0 = grind (arith, here) in
+    let y : c.from-in-loop-x.result ≡ get_or vs l.x-index 0 = grind (arith, here) in
+    let least : c.min-smallest.result ≡ min l.smallest c.from.result = search rules in
+    let most : c.max-largest.result ≡ max l.largest c.from-in-loop-x.result = search rules in
+    let small : c.from-in-loop-x.result ≤ widest = search rules in (
+      least ∙ (rw (l.invariant.0, x) (smallest_turn vs l.x-index)),
+      most ∙ (rw (l.invariant.1, y) (largest_turn vs l.x-index)),
+      omega (arith, most, small),
+    )
 
 pub returns : goal.returns
 returns c =
-    let l = c.loop-read in
-    let a = c.args in
-    let e : l.read ≡ min a.n most_held = omega arith in
-    rw (← e) (range_read a.results.now l.read _ refl l.invariant.1 l.invariant.2 l.invariant.3)
+    let l = c.loop-x in
+    let vs = c.args.results.now in
+    let n : c.min-held.result ≡ min (length vs) most_held = search rules in
+    let all : length (take c.min-held.result vs) ≡ c.min-held.result = length-take-le c.min-held.result vs (search rules) in
+    let e : l.x-index ≡ c.min-held.result = omega (arith, all) in
+    rw (← n) (range_read vs c.min-held.result _ refl (rw (← e) l.invariant.0) (rw (← e) l.invariant.1) l.invariant.2)
