@@ -1,5 +1,5 @@
 -- The lines of a comma list one after another: one law for each way the reader goes. Assumes nothing.
-use mathlib.Core.Path.{◌≡◌, refl, sym, ap, ◌∙◌, subst}
+use mathlib.Core.Path.{◌≡◌, refl, sym, ap, ◌∙◌}
 use mathlib.Core.Bool.{Bool, true, false, true≢false}
 use mathlib.Core.List.{List}
 use Rattle.std.specs.Prelude.{Option, Some, None, Result, Ok, Err, ⊤, is_err}
@@ -27,8 +27,8 @@ use Rattle.list_lines.specs.Lines.{entry_on, ReadAt}
 use Rattle.list_lines.specs.declared.Entry.{Entry}
 use Rattle.list_lines.specs.declared.LineRead.{LineRead}
 use Rattle.list_lines.proofs.LineLaws.{line_kept}
-use Rattle.tally.specs.View.{outcome_of, view}
-use Rattle.tally.specs.Calls.{Sound, Answers}
+use Rattle.tally.specs.View.{view}
+use Rattle.tally.specs.Calls.{Sound}
 use Rattle.tally.specs.declared.Tally.{Tally}
 use Rattle.list_reader.specs.Promise.{EntersEntry, told_by, Takes, Lists}
 
