@@ -15,14 +15,10 @@ pub fn judge(sheet: &[u8], buf: &mut [u8]) -> Result<usize, Refusal>
     match sheet::read(sheet) {
         Err(fault) => refusal_lines::print_refused(buf, fault.refusal, fault.place.line()),
         Ok(reading) => match report::report(reading.tally, buf) {
-            Ok(size) => Ok(size),
-            Err(refusal) => {
-                if refusal.number() == Refusal::TooFew.number() {
-                    refusal_lines::print_refused(buf, Refusal::TooFew, reading.lines)
-                } else {
-                    Err(refusal)
-                }
+            Err(Refusal::TooFew) => {
+                refusal_lines::print_refused(buf, Refusal::TooFew, reading.lines)
             }
+            answer => answer,
         },
     }
 }

