@@ -22,28 +22,28 @@ use Rattle.tally.specs.Calls.{Sound, Answers}
 use Rattle.tally.specs.declared.Tally.{Tally}
 use Rattle.writer.specs.Promise.{Wrote}
 use Rattle.sheet.specs.Promise.{FaultOf, TallyOf}
-use Rattle.list_reader.specs.Promise.{listed, Lists}
+use Rattle.list_reader.specs.Promise.{listed}
 use Rattle.narrowed.specs.Narrowed.{kept_container, kept_x}
 use Rattle.narrowed.proofs.Answered.{enter_kept, withdraw_kept}
 
 -- ---- each way that a call goes, on a sheet whose outcome is o
 module _ (o : SheetOutcome) (file : ℕ) (call : Ledger → Listed) (d : List ℕ) where
   -- the sheet's fault
-  pub at_fault : {r : Result ℕ Fault} {f : Fault} → IsErrAnd r (λ g. g ≡ f) → FaultOf o f → on_sheet_answer r d ≡ call_on file o call d
-  at_fault {r = Ok n} h q = absurd h
-  at_fault {r = Err g} h q = rw (h, q.right, q.file) refl
+  pub at_fault : (r : Result ℕ Fault) (f : Fault) → IsErrAnd r (λ g. g ≡ f) → FaultOf o f → on_sheet_answer r d ≡ call_on file o call d
+  at_fault (Ok n) f h q = absurd h
+  at_fault (Err g) f h q = rw (h, q.right, q.file) refl
 
   module _ {t : Tally} {lines : ℕ} (reads : TallyOf o t lines) (u : Tally) where
     -- the call's refusal
-    pub at_refusal : {r : Result ℕ Fault} {f : Fault} → IsErrAnd r (λ g. g ≡ f) → file_of f.place ≡ file → listed (Err f) (view u) ≡ call (view t) → on_sheet_answer r d ≡ call_on file o call d
-    at_refusal {r = Ok n} h p q = absurd h
-    at_refusal {r = Err g} {f} h p q = rw (h, reads.right, ← q, p, ne_eqb (number_of f.refusal) 0 (never_zero f.refusal)) refl
+    pub at_refusal : (r : Result ℕ Fault) (f : Fault) → IsErrAnd r (λ g. g ≡ f) → file_of f.place ≡ file → listed (Err f) (view u) ≡ call (view t) → on_sheet_answer r d ≡ call_on file o call d
+    at_refusal (Ok n) f h p q = absurd h
+    at_refusal (Err g) f h p q = rw (h, reads.right, ← q, p, ne_eqb (number_of f.refusal) 0 (never_zero f.refusal)) refl
 
     module _ {a : ⊤} (q : listed (Ok a) (view u) ≡ call (view t)) (sound : Sound u) {b : List ℕ} where
       -- the writer's refusal
-      pub at_unwritten : {r : Result ℕ Fault} {e : Refusal} → IsErrAnd r (λ g. g ≡ in_call e) → Wrote u d b (Err e) → on_sheet_answer r b ≡ call_on file o call d
-      at_unwritten {r = Ok n} h w = absurd h
-      at_unwritten {r = Err g} h w = rw (h, reads.right, ← q) (ap as_written (w.right sound))
+      pub at_unwritten : (r : Result ℕ Fault) {e : Refusal} → IsErrAnd r (λ g. g ≡ in_call e) → Wrote u d b (Err e) → on_sheet_answer r b ≡ call_on file o call d
+      at_unwritten (Ok n) h w = absurd h
+      at_unwritten (Err g) h w = rw (h, reads.right, ← q) (ap as_written (w.right sound))
 
       -- the sheet after it
       pub at_written : {n : ℕ} → Wrote u d b (Ok n) → on_sheet_answer (Ok n) b ≡ call_on file o call d
