@@ -3,10 +3,11 @@ use Prim.Native.Nat.{ℕ, zero, suc, ◌+◌, ◌≤◌, ◌<◌}
 use native.Mathlib.Omega.{arith}
 use native.Mathlib.Numerals.{add-one}
 use native.Mathlib.Decide.{ℕ_discrete}
-use mathlib.Core.Path.{◌≡◌, sym, ap, ap₂, ◌∙◌}
+use mathlib.Core.Path.{◌≡◌, refl, sym, ap, ap₂, ◌∙◌}
 use mathlib.Core.Bool.{Bool, false, ◌||◌}
 use mathlib.Core.List.{List}
-use lib.ListN.{get_or}
+use lib.ListN.{get_or, take}
+use lib.Seq.{get_or-take}
 use Rattle.rules.specs.Contents.{Contents, is_held, shared}
 use Rattle.rules.proofs.Tests.{or_left, or_right}
 use Rattle.rules.proofs.ContentLaws.{shared_put, shared_none}
@@ -17,6 +18,12 @@ use Rattle.held_lists.proofs.Stored.{fewer, last_without, stored_free}
 pub meets_turn : (f : Contents) (l : List ℕ) (j : ℕ) {r found here : Bool} → r ≡ found || here → found ≡ meets f l j → here ≡ is_held (f (get_or l j 0)) → r ≡ meets f l (j + 1)
 unfolding meets
 meets_turn f l j p q h = p ∙ (ap₂ ◌||◌ q h ∙ ap (meets f l) (sym (add-one j)))
+
+-- the places that count are those of the list that is cut to them
+pub meets_cut : (f : Contents) (l : List ℕ) (n m : ℕ) → m ≤ n → meets f (take n l) m ≡ meets f l m
+unfolding meets
+meets_cut f l n zero h = refl
+meets_cut f l n (suc m) h = simp (get_or-take n l m 0 (omega arith), meets_cut f l n m (omega arith))
 
 -- the loop's test is the ledger's
 pub meets_shared : (n : ℕ) (f : Contents) (ks vs : List ℕ) (m : ℕ) → Apart ks m → ((i : ℕ) → i < m → 1 ≤ get_or ks i 0)

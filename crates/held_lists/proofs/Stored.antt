@@ -84,6 +84,14 @@ unfolding stored
 stored_cut ks vs m zero h = refl
 stored_cut ks vs m (suc n) h = simp (get_or-take m ks n 0 (omega arith), stored_cut ks vs m n (omega arith))
 
+pub found_cut : (l : List ℕ) (n k r : ℕ) → FoundAt (take n l) n k r → FoundAt l n k r
+found_cut l n k r f =
+    record {
+      within = f.within;
+      before = λ i h e. f.before i h (get_or-take n l i 0 (omega (arith, f.within)) ∙ e);
+      here = λ h. sym (get_or-take n l r 0 h) ∙ f.here h;
+    }
+
 -- a store past the first n places
 pub stored_frame : (ks vs : List ℕ) (n j k v : ℕ) → n ≤ j → stored (set ks j k) (set vs j v) n ≡ stored ks vs n
 unfolding stored
