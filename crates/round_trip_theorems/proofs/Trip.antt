@@ -9,9 +9,8 @@ use lib.ListN.{length, take}
 use borrow.Author.Tests.{eq-eqb, ne_eqb, eqb-false}
 use Rattle.rules.specs.Numbers.{TextAnswer, wrote, text_answer}
 use Rattle.rules.specs.Text.{laid_in}
-use Rattle.rules.specs.Lines.{lines_of}
-use Rattle.rules.specs.Ledger.{Ledger, containers}
-use Rattle.rules.specs.Reading.{accepted, read_of}
+use Rattle.rules.specs.Ledger.{Ledger}
+use Rattle.rules.specs.Reading.{read_of}
 use Rattle.rules.specs.Writing.{sheet_of, write_on}
 use Rattle.rules.specs.declared.Refusal.{Refusal}
 use Rattle.rules.specs.declared.Fault.{Fault}
