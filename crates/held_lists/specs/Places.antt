@@ -1,5 +1,5 @@
 -- What the lists of a tally stand for, the containers and the results, and what the calls on them promise.
-use Rattle.std.specs.Prelude.{ℕ, zero, suc, ◌+◌, ◌≤◌, ◌<◌, ◌≡◌, Bool, false, ◌||◌, List, length, get_or, Option, Some, None}
+use Rattle.std.specs.Prelude.{ℕ, zero, suc, ◌≤◌, ◌<◌, ◌≡◌, Bool, false, ◌||◌, List, length, get_or, Option, Some, None}
 use Rattle.rules.specs.Contents.{Contents, free, holds, none, put, is_held}
 use Rattle.rules.specs.Range.{IsRange}
 use Rattle.rules.specs.declared.Range.{Range}

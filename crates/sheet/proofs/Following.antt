@@ -1,6 +1,6 @@
 -- The lines of a sheet one after the other: what a line comes to, where the next one starts, and the line with which the results
 -- begin. Assumes nothing.
-use mathlib.Core.Path.{◌≡◌, refl, sym, ap, ◌∙◌}
+use mathlib.Core.Path.{◌≡◌, refl, sym, ap, ◌∙◌, subst}
 use mathlib.Core.Bool.{Bool, true, false, true≢false}
 use mathlib.Core.List.{List}
 use Prim.Native.Nat.{ℕ, ◌+◌, ◌-◌, ◌≤◌, ◌<◌}
@@ -11,6 +11,7 @@ use lib.Dec.{eqb}
 use lib.ListN.{length, drop}
 use borrow.Author.Tests.{ne_eqb, lt-ltb, le-ltb}
 use Rattle.rules.specs.Choice.{pick, unless}
+use Rattle.rules.specs.Limits.{most_held}
 use Rattle.rules.specs.Numbers.{number_of}
 use Rattle.rules.specs.Cards.{open_number}
 use Rattle.rules.specs.Fields.{all_digits}
@@ -22,6 +23,8 @@ use Rattle.rules.specs.declared.Lot.{Lot}
 use Rattle.rules.specs.declared.Card.{Card}
 use Rattle.rules.specs.declared.Refusal.{Refusal}
 use Rattle.rules.specs.declared.Stage.{Stage}
+use Rattle.rules.specs.declared.Stage.TheVariants as stage
+use Rattle.rules.specs.declared.Fault.{Fault}
 use Rattle.rules.specs.declared.Frame.{Frame}
 use Rattle.rules.specs.declared.Frame.TheVariants.{Bad}
 use Rattle.cutter.specs.Runs.{line_at}
@@ -29,17 +32,17 @@ use Rattle.frames.specs.declared.FramedLine.{FramedLine}
 use Rattle.frames.specs.Promise.{LineAt}
 use Rattle.cutter.proofs.Lines.{lines_ended, lines_unended, lines_none}
 use Rattle.held_lists.specs.Places.{stored}
-use Rattle.tally.specs.Calls.{Opens}
+use Rattle.tally.specs.Calls.{Opens, Sound}
 use Rattle.head_steps.specs.declared.Progress.{Progress}
 use Rattle.head_steps.specs.Promise.{state_of, is_result, HeadEnds, just_opened}
-use Rattle.result_steps.specs.Promise.{at_results, opened_state}
+use Rattle.result_steps.specs.Promise.{opened_state}
 use Rattle.rules.proofs.EveryStage.{at_every_stage}
 use Rattle.rules.proofs.RefusalLaws.{never_zero}
 use Rattle.head_steps.proofs.HeadLaws.{begin_step}
+use Rattle.tally.specs.View.{tally_of}
 use Rattle.tally.specs.declared.Tally.{Tally}
-use Rattle.sheet.specs.declared.Fault.{Fault}
 use Rattle.sheet.specs.declared.Reading.{Reading}
-use Rattle.sheet.specs.Promise.{ReadAs, Starts, read_rest, read_opened, HeadRead, SheetIs}
+use Rattle.sheet.specs.Promise.{FaultOf, ReadAs, Starts, read_rest, read_opened, HeadRead}
 
 bad_frame : (l : List ℕ) → all_digits l ≡ false → frame_of l ≡ Bad
 unfolding frame_of
@@ -125,18 +128,25 @@ pub unended : (s : Stage) → is_opened s ≡ false → is_ended s ≡ false
 unended = at_every_stage (λ s. is_opened s ≡ false → is_ended s ≡ false) (λ e. refl) (λ e. refl) (λ e. refl) (λ e. refl) (λ e. refl) (λ e. refl) (λ e. e)
 
 -- ---- the answer to the open, where the results begin
-pub read_as : {o q : SheetOutcome} {r : Reading} → ReadAs o r → o ≡ q → ReadAs q r
-read_as h e = record { right = h.right ∙ e; sound = h.sound; empty = h.empty }
-
 module _ (s : List ℕ) (a n last : ℕ) {l : Lot} {c : Card} where
   pub open_refused : {e : Refusal} → Opens l c (Err e) → refused (number_of e) n ≡ read_opened s a l c last n
   open_refused {e} answer = rw (← answer.right, ne_eqb (number_of e) 0 (never_zero e)) refl
 
-  pub open_accepted : {u : ⊤} → Opens l c (Ok u) → (ks vs : List ℕ) → read_rest s a (opened_state l c last at_results ks vs) n ≡ read_opened s a l c last n
+-- a tally that holds nothing, whose lot may be opened with its card
+module _ (t : Tally) (e : t.held ≡ 0) {u : ⊤} (answer : Opens t.lot t.card (Ok u)) where
+  pub open_sound : length t.containers ≡ most_held → length t.results ≡ most_held → Sound t
+  open_sound k v = subst (λ (m : ℕ). Sound (tally_of t.lot t.card t.containers t.results m)) (sym e) (answer.sound refl t.containers t.results k v)
+
+  pub open_accepted : (s : List ℕ) (a n last : ℕ) → read_rest s a (opened_state last stage.Result t) n ≡ read_opened s a t.lot t.card last n
   unfolding stored
-  open_accepted answer ks vs = rw (← answer.right) refl
+  open_accepted s a n last =
+      ap (λ (m : ℕ). read_rest s a (opened_state last stage.Result (tally_of t.lot t.card t.containers t.results m)) n) e
+      ∙ rw (← answer.right) refl
 
 -- ---- what `?` hands on is the fault that was given
-pub refused_as : (o : SheetOutcome) (r : Result ℕ Fault) (f : Fault) (t : Tally) → IsErrAnd r (λ g. g ≡ f) → o ≡ refused (number_of f.refusal) f.line → SheetIs o r t
-refused_as o (Ok n) f t h q = absurd h
-refused_as o (Err g) f t h q = rw h q
+pub refused_as : (o : SheetOutcome) (r : Result Reading Fault) (f : Fault) → IsErrAnd r (λ g. g ≡ f) → FaultOf o f → ReadAs o r
+refused_as o (Ok q) f h g = absurd h
+refused_as o (Err g) f h q = rw h q
+
+pub fault_as : {o q : SheetOutcome} {f : Fault} → o ≡ q → FaultOf q f → FaultOf o f
+fault_as e h = record { right = e ∙ h.right; file = h.file }

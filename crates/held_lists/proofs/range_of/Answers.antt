@@ -1,12 +1,11 @@
 -- `held_lists::range_of` meets its promise: the loop keeps the two ends of the places passed. Assumes nothing.
-use Prim.Native.Nat.{◌+◌, ◌≤◌, min, max}
+use Prim.Native.Nat.{◌≤◌, min, max}
 use mathlib.Core.Path.{◌≡◌, refl, ◌∙◌}
 use native.Mathlib.Omega.{arith}
 use lib.ListN.{get_or, length, take}
 use lib.Seq.{get_or-take, length-take-le}
 use Rattle.rules.specs.Limits.{most_held, widest}
 use Rattle.rules.specs.Contents.{smallest, largest}
-use Rattle.held_lists.specs.Places.{in_order}
 use Rattle.held_lists.proofs.InOrder.{smallest_turn, largest_turn, range_read}
 use borrow.Author.Rules.{rules}
 use Rattle.held_lists.proofs.range_of.Goals as goal

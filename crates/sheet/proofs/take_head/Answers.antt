@@ -38,9 +38,9 @@ returns-in-Ok-None c =
 pub returns-in-Err : goal.returns-in-Err
 returns-in-Err c =
     let loop = c.loop-at in
-    line_comes loop.invariant.0 c.loop-at-test.true c.line_at-head_line.ensures _ loop.invariant.2 c.in-Err.ensures.right
+    record { right = line_comes loop.invariant.0 c.loop-at-test.true c.line_at-head_line.ensures _ loop.invariant.2 c.in-Err.ensures.right; file = refl }
 
 pub returns : goal.returns
 returns c =
     let loop = c.loop-at in
-    loop.invariant.2 ∙ rest_none loop.invariant.0 c.loop-at-test.false _ false (unended loop.p.stage loop.invariant.1)
+    record { right = loop.invariant.2 ∙ rest_none loop.invariant.0 c.loop-at-test.false _ false (unended loop.p.stage loop.invariant.1); file = refl }

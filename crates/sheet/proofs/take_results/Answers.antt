@@ -1,5 +1,5 @@
 -- `sheet::take_results` meets its contract.
-use Rattle.std.proofs.Common.{sym, ◌∙◌, true, false, arith}
+use Rattle.std.proofs.Common.{refl, sym, ◌∙◌, true, false, arith}
 use Rattle.sheet.proofs.Following.{result_frame_lem, line_comes, line_next, rest_none}
 use Rattle.sheet.proofs.take_results.Goals as goal
 
@@ -18,27 +18,30 @@ loop-at-preserved c =
     let loop = c.loop-at in
     let taken = c.in-Ok.ensures in (
       (line_next loop.invariant.0 c.loop-at-test.true c.line_at-result_line.ensures (result_frame_lem _ taken.result)).0,
-      λ d s. let sofar = loop.invariant.1 d s in (
-        taken.proper d sofar.0,
-        λ last. line_comes loop.invariant.0 c.loop-at-test.true c.line_at-result_line.ensures _ (sofar.1 last) (taken.right d last sofar.0),
+      λ s. let sofar = loop.invariant.1 s in (
+        taken.proper sofar.0,
+        λ last. line_comes loop.invariant.0 c.loop-at-test.true c.line_at-result_line.ensures _ (sofar.1 last) (taken.right last sofar.0),
       ),
     )
 
 pub returns-in-Err : goal.returns-in-Err
-returns-in-Err c d last s =
+returns-in-Err c last s =
     let loop = c.loop-at in
-    let sofar = loop.invariant.1 d s in
-    line_comes loop.invariant.0 c.loop-at-test.true c.line_at-result_line.ensures _ (sofar.1 last) (c.in-Err.ensures.right d last sofar.0)
+    let sofar = loop.invariant.1 s in
+    record {
+      right = line_comes loop.invariant.0 c.loop-at-test.true c.line_at-result_line.ensures _ (sofar.1 last) (c.in-Err.ensures.right last sofar.0);
+      file = refl;
+    }
 
 pub returns-then-is_ended : goal.returns-then-is_ended
-returns-then-is_ended c d last s =
+returns-then-is_ended c last s =
     let loop = c.loop-at in
-    let sofar = loop.invariant.1 d s in
+    let sofar = loop.invariant.1 s in
     let ended = rest_none loop.invariant.0 c.loop-at-test.false _ true (sym c.is_ended.ensures ∙ c.if-is_ended.true) in
     record { right = sofar.1 last ∙ ended; sound = sofar.0.sound }
 
 pub returns : goal.returns
-returns c d last s =
+returns c last s =
     let loop = c.loop-at in
-    (loop.invariant.1 d s).1 last
-    ∙ rest_none loop.invariant.0 c.loop-at-test.false _ false (sym c.is_ended.ensures ∙ c.if-is_ended.false)
+    let ended = rest_none loop.invariant.0 c.loop-at-test.false _ false (sym c.is_ended.ensures ∙ c.if-is_ended.false) in
+    record { right = (loop.invariant.1 s).1 last ∙ ended; file = refl }

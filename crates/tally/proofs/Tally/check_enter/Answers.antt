@@ -1,6 +1,6 @@
 -- `tally::Tally::check_enter` meets its promise. Assumes nothing.
-use Rattle.std.proofs.Common.{rules, ap, ◌∙◌, List, ℕ, arith}
-use borrow.Author.Tests.{le-ltb, le-leb, lt-ltb}
+use Rattle.std.proofs.Common.{rules, ap, ◌∙◌}
+use borrow.Author.Tests.{le-ltb}
 use Rattle.rules.specs.Contents.{is_held, Contents}
 use Rattle.tally.proofs.Steps.{same_stored, already_held, may_enter}
 use Rattle.tally.proofs.Tally.check_enter.Goals as goal

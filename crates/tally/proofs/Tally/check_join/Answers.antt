@@ -1,5 +1,5 @@
 -- `tally::Tally::check_join` meets its promise: one law for each answer. Assumes nothing.
-use Rattle.std.proofs.Common.{rules, sym, ◌∙◌}
+use Rattle.std.proofs.Common.{sym, ◌∙◌}
 use Rattle.tally.proofs.Joining.{met_in, join_shared, join_many, join_good}
 use Rattle.tally.proofs.Tally.check_join.Goals as goal
 

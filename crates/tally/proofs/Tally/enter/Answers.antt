@@ -2,7 +2,7 @@
 use mathlib.Core.Path.{refl}
 use Rattle.std.specs.Prelude.{Ok, Err}
 use Rattle.rules.proofs.RefusalLaws.{never_zero, passed_on}
-use Rattle.tally.proofs.Steps.{enter_room, enters, enters_not}
+use Rattle.tally.proofs.Steps.{enters, enters_not}
 use Rattle.tally.proofs.Tally.enter.Goals as goal
 
 pub returns-in_err-check_enter : goal.returns-in_err-check_enter
