@@ -27,20 +27,20 @@ fn mixing(rt: &impl Print, line: &CallLine) -> io::Result<()> {
 }
 
 // A call that changes its tally; an unknown call changes nothing.
-fn change(rt: &impl Print, line: &CallLine, t: &mut Tally, other: Tally) -> io::Result<()> {
+fn change(rt: &impl Print, line: &CallLine, t: &mut Tally, other: &Tally) -> io::Result<()> {
     let answer = match line.name {
         b"open" => tallies::open(t, &line.numbers),
         b"enter" => tallies::enter(t, &line.numbers),
         b"weigh" => tallies::weigh(t, &line.numbers),
         b"withdraw" => tallies::withdraw(t, &line.numbers),
-        b"join" => tallies::join(t, other),
+        b"join" => t.join(other),
         _ => Err(Refusal::BadLine),
     };
     print::held(rt, answer, t.held)
 }
 
 // Makes a line's call and prints its answer.
-fn make(rt: &impl Print, line: &CallLine, t: &mut Tally, other: Tally) -> io::Result<()> {
+fn make(rt: &impl Print, line: &CallLine, t: &mut Tally, other: &Tally) -> io::Result<()> {
     let [first, second, ..] = line.numbers;
     match line.name {
         b"sampling" => print::number(rt, sampling::primary_samples(first, second)),
@@ -61,7 +61,7 @@ fn run(rt: &impl Print, text: &[u8]) -> io::Result<()> {
         let line = lines::read(line.strip_suffix(b"\n").unwrap_or(line));
         let named = usize::from(line.numbers[0] == 2);
         let other = tallies[1 - named];
-        make(rt, &line, &mut tallies[named], other)?;
+        make(rt, &line, &mut tallies[named], &other)?;
     }
     Ok(())
 }

@@ -1,5 +1,5 @@
 // The answer to a call, and the bytes at the front of it.
-use rules::Refusal;
+use rules::{Fault, Refusal};
 
 // 0 or the refusal's number; and what the two bytes behind it say: a text's length, or the line of a comma list that is refused, else 0.
 #[derive(Clone, Copy)]
@@ -26,6 +26,22 @@ impl From<Result<usize, Refusal>> for Answer {
 impl From<Result<(), Refusal>> for Answer {
     fn from(answer: Result<(), Refusal>) -> Answer {
         Answer::from(answer.map(|()| 0))
+    }
+}
+
+// Of a comma list.
+impl From<Result<(), Fault>> for Answer {
+    fn from(answer: Result<(), Fault>) -> Answer {
+        match answer {
+            Ok(()) => Answer {
+                number: 0,
+                behind: 0,
+            },
+            Err(fault) => Answer {
+                number: fault.refusal.number(),
+                behind: fault.place.line(),
+            },
+        }
     }
 }
 

@@ -5,23 +5,7 @@ use crate::answers::Answer;
 use crate::calls::{Call, Named, Text};
 use crate::opening::Opening;
 use rules::Refusal;
-use tally::{Outcome, Tally};
-
-// The answer of a call, which leaves its tally in the place of the one before.
-fn left(t: &mut Tally, outcome: Outcome) -> Result<(), Refusal> {
-    *t = outcome.tally;
-    outcome.answer
-}
-
-// A comma list: its refusal has a line.
-fn listed(t: &mut Tally, lines: &[u8]) -> Answer {
-    let listing = list_reader::read_list(*t, lines);
-    *t = listing.tally;
-    Answer {
-        behind: listing.line,
-        ..Answer::from(listing.answer)
-    }
-}
+use tally::Tally;
 
 fn written(t: Tally, text: Text, lent: &mut [u8]) -> Result<usize, Refusal> {
     match text {
@@ -36,8 +20,7 @@ fn joined(tallies: &mut [Tally; 2], on: usize, itself: bool) -> Result<(), Refus
     requires { on < 2 }
 {
     let other = tallies[if itself { on } else { 1 - on }];
-    let t = &mut tallies[on];
-    left(t, tally::join(*t, other))
+    tallies[on].join(&other)
 }
 
 // Makes a call. `lent` are the bytes for a text.
@@ -48,17 +31,17 @@ fn made(tallies: &mut [Tally; 2], named: Named, lent: &mut [u8]) -> Answer
     match named.call {
         Call::Open(bytes) => {
             let opening = Opening { bytes };
-            Answer::from(left(t, tally::open(*t, opening.lot(), opening.card())))
+            Answer::from(t.open(opening.lot(), opening.card()))
         }
-        Call::Enter { container, x } => Answer::from(left(t, tally::enter(*t, container, x))),
-        Call::Withdraw { container } => Answer::from(left(t, tally::withdraw(*t, container))),
+        Call::Enter { container, x } => Answer::from(t.enter(container, x)),
+        Call::Withdraw { container } => Answer::from(t.withdraw(container)),
         Call::Join { itself } => Answer::from(joined(tallies, named.on, itself)),
         Call::Weigh {
             container,
             status,
             pans,
-        } => Answer::from(left(t, tally::weigh(*t, container, status, pans))),
-        Call::List { lines } => listed(t, lines),
+        } => Answer::from(t.weigh(container, status, pans)),
+        Call::List { lines } => Answer::from(list_reader::read_list(t, lines)),
         Call::Write { text, .. } => Answer::from(written(*t, text, lent)),
     }
 }
