@@ -4,7 +4,8 @@ ghost use Rattle.std.specs.Prelude.{◌≤◌, length};
 // The most numbers of a line that are kept.
 pub const MOST_NUMBERS: usize = 64;
 
-// The line's first word, how many words stand behind it, each with the blank before it, and the values of the first of them.
+// The line's first word, how many words stand behind it, each with the blank before it, and the values of the first of them, with zeros
+// behind them. No slice for `count` and `numbers`: more words are counted than are kept, and a call reads a number that is not there as 0.
 #[derive(Clone, Copy)]
 pub struct CallLine<'a> {
     pub name: &'a [u8],

@@ -15,7 +15,7 @@ mod tallies;
 use lines::CallLine;
 use rules::Refusal;
 use std::io;
-use tally::{Outcome, Tally};
+use tally::Tally;
 
 // mixing TOLERATED X X ..
 fn mixing(rt: &impl Print, line: &CallLine) -> io::Result<()> {
@@ -26,38 +26,33 @@ fn mixing(rt: &impl Print, line: &CallLine) -> io::Result<()> {
     }
 }
 
-// The tally after a call that changes it; an unknown call changes nothing.
-fn changed(rt: &impl Print, line: &CallLine, t: Tally, other: Tally) -> io::Result<Tally> {
-    let outcome = match line.name {
+// A call that changes its tally; an unknown call changes nothing.
+fn change(rt: &impl Print, line: &CallLine, t: &mut Tally, other: &Tally) -> io::Result<()> {
+    let answer = match line.name {
         b"open" => tallies::open(t, &line.numbers),
         b"enter" => tallies::enter(t, &line.numbers),
         b"weigh" => tallies::weigh(t, &line.numbers),
         b"withdraw" => tallies::withdraw(t, &line.numbers),
-        b"join" => tally::join(t, other),
-        _ => Outcome {
-            answer: Err(Refusal::BadLine),
-            tally: t,
-        },
+        b"join" => t.join(other),
+        _ => Err(Refusal::BadLine),
     };
-    print::held(rt, outcome.answer, outcome.tally.held)?;
-    Ok(outcome.tally)
+    print::held(rt, answer, t.held)
 }
 
-// The tally after a line's call.
-fn after(rt: &impl Print, line: &CallLine, t: Tally, other: Tally) -> io::Result<Tally> {
+// Makes a line's call and prints its answer.
+fn make(rt: &impl Print, line: &CallLine, t: &mut Tally, other: &Tally) -> io::Result<()> {
     let [first, second, ..] = line.numbers;
     match line.name {
-        b"sampling" => print::number(rt, sampling::primary_samples(first, second))?,
-        b"label" => print::test(rt, tolerance::label(first, second))?,
-        b"pair" => print::test(rt, tolerance::pair(first, second))?,
-        b"mixing" => mixing(rt, line)?,
-        b"report" => print::text(rt, |buf| report::report(t, buf))?,
-        b"write" => print::text(rt, |buf| writer::write(t, buf))?,
-        b"writelist" => print::text(rt, |buf| list_writer::write_list(t, buf))?,
-        b"list" => return tallies::list(rt, t, line),
-        _ => return changed(rt, line, t, other),
+        b"sampling" => print::number(rt, sampling::primary_samples(first, second)),
+        b"label" => print::test(rt, tolerance::label(first, second)),
+        b"pair" => print::test(rt, tolerance::pair(first, second)),
+        b"mixing" => mixing(rt, line),
+        b"report" => print::text(rt, |buf| report::report(*t, buf)),
+        b"write" => print::text(rt, |buf| writer::write(*t, buf)),
+        b"writelist" => print::text(rt, |buf| list_writer::write_list(*t, buf)),
+        b"list" => tallies::list(rt, t, line),
+        _ => change(rt, line, t, other),
     }
-    Ok(t)
 }
 
 fn run(rt: &impl Print, text: &[u8]) -> io::Result<()> {
@@ -65,7 +60,8 @@ fn run(rt: &impl Print, text: &[u8]) -> io::Result<()> {
     for line in text.split_inclusive(|b| *b == b'\n') {
         let line = lines::read(line.strip_suffix(b"\n").unwrap_or(line));
         let named = usize::from(line.numbers[0] == 2);
-        tallies[named] = after(rt, &line, tallies[named], tallies[1 - named])?;
+        let other = tallies[1 - named];
+        make(rt, &line, &mut tallies[named], &other)?;
     }
     Ok(())
 }

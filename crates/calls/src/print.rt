@@ -1,5 +1,5 @@
 // A line of the answer.
-use rules::Refusal;
+use rules::{Fault, Refusal};
 use std::io;
 
 fn refused(rt: &impl Print, refusal: Refusal) -> io::Result<()> {
@@ -29,13 +29,10 @@ pub fn held(rt: &impl Print, answer: Result<(), Refusal>, results: usize) -> io:
     println!(rt; "{} held {results}", number_of(answer))
 }
 
-// A comma list: its answer's number and line, and how many results are then held.
-pub fn listed(
-    rt: &impl Print,
-    answer: Result<(), Refusal>,
-    line: usize,
-    results: usize,
-) -> io::Result<()> {
+// A comma list: its answer's number, the line of its fault or 0, and how many results are then held.
+pub fn listed(rt: &impl Print, answer: Result<(), Fault>, results: usize) -> io::Result<()> {
+    let line = answer.err().map_or(0, |fault| fault.place.line());
+    let answer = answer.map_err(|fault| fault.refusal);
     println!(rt; "{} {line} held {results}", number_of(answer))
 }
 

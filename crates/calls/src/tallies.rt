@@ -1,17 +1,17 @@
-// The calls on a tally.
+// The calls on a tally that is lent.
 use crate::lines::{self, CallLine, MOST_NUMBERS};
 use crate::print;
-use rules::{CRITICALS, Card, Head, Lot, MOST_ROWS, Pans};
+use rules::{CRITICALS, Card, Head, Lot, MOST_ROWS, Pans, Refusal};
 use std::io;
-use tally::{Outcome, Tally};
+use tally::Tally;
 
-// The number as 16 bits; a larger one as the largest.
+// The number as 16 bits; a larger one as the largest. No cast of the language does so in one word.
 fn narrow(n: u32) -> u16 {
     u16::try_from(n).unwrap_or(u16::MAX)
 }
 
 // open TALLY ATTRIBUTE CONTAINERS F G n ROWS LOWEST HIGHEST BOUND TOLERATED N CRITICAL+1
-pub fn open(t: Tally, numbers: &[u32; MOST_NUMBERS]) -> Outcome {
+pub fn open(t: &mut Tally, numbers: &[u32; MOST_NUMBERS]) -> Result<(), Refusal> {
     let [
         _,
         attribute,
@@ -49,36 +49,35 @@ pub fn open(t: Tally, numbers: &[u32; MOST_NUMBERS]) -> Outcome {
         bound: [narrow(bound); MOST_ROWS],
         tolerated: [narrow(tolerated); MOST_ROWS],
     };
-    tally::open(t, lot, card)
+    t.open(lot, card)
 }
 
 // enter TALLY CONTAINER X
-pub fn enter(t: Tally, numbers: &[u32; MOST_NUMBERS]) -> Outcome {
+pub fn enter(t: &mut Tally, numbers: &[u32; MOST_NUMBERS]) -> Result<(), Refusal> {
     let [_, container, x, ..] = *numbers;
-    tally::enter(t, narrowed::container(container), narrowed::result(x))
+    t.enter(narrowed::container(container), narrowed::result(x))
 }
 
 // weigh TALLY CONTAINER STATUS COMPONENT REMAINDER
-pub fn weigh(t: Tally, numbers: &[u32; MOST_NUMBERS]) -> Outcome {
+pub fn weigh(t: &mut Tally, numbers: &[u32; MOST_NUMBERS]) -> Result<(), Refusal> {
     let [_, container, status, component, remainder, ..] = *numbers;
     let pans = Pans {
         component: weights::float(component),
         remainder: weights::float(remainder),
     };
-    tally::weigh(t, narrowed::container(container), narrow(status), pans)
+    t.weigh(narrowed::container(container), narrow(status), pans)
 }
 
 // withdraw TALLY CONTAINER
-pub fn withdraw(t: Tally, numbers: &[u32; MOST_NUMBERS]) -> Outcome {
+pub fn withdraw(t: &mut Tally, numbers: &[u32; MOST_NUMBERS]) -> Result<(), Refusal> {
     let [_, container, ..] = *numbers;
-    tally::withdraw(t, narrowed::container(container))
+    t.withdraw(narrowed::container(container))
 }
 
 // list TALLY WORD WORD ..: its lines are entered.
-pub fn list(rt: &impl Print, t: Tally, line: &CallLine) -> io::Result<Tally> {
+pub fn list(rt: &impl Print, t: &mut Tally, line: &CallLine) -> io::Result<()> {
     let mut list = buffers::zeroed::<4096>();
     let n = lines::lay_list(line.words, &mut list);
-    let listing = list_reader::read_list(t, &list[..n]);
-    print::listed(rt, listing.answer, listing.line, listing.tally.held)?;
-    Ok(listing.tally)
+    let answer = list_reader::read_list(t, &list[..n]);
+    print::listed(rt, answer, t.held)
 }

@@ -30,7 +30,8 @@ fn digits_end(rest: &[u8]) -> usize
     rest.iter().take_while(|&&c| is_digit(c)).count()
 }
 
-// How many digits a good line has whose second byte is this one, if they are more than eight; else eight.
+// How many digits a good line has whose second byte is this one, if they are more than eight; else eight. `kind` is the sheet's own byte,
+// which may be any: an enum of the kinds would need a case for every other byte, and be no plainer.
 fn likely_digits(kind: u8) -> usize
     ensures { (8 ≤ result) × (result ≤ most_digits) }
 {

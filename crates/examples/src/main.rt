@@ -2,75 +2,69 @@
 // a sheet and written of one. One line for each group, and a total.
 #![tactic(auto)]
 
-mod comma_lists;
+mod cases;
 mod files;
-mod sheets;
-mod texts;
+mod printed;
 
-use std::io;
+use cases::comes_out;
+use files::Case;
 use std::rt::Files;
+use std::{fmt, io};
 
 // How many cases there were, and how many came out as they should.
 #[derive(Clone, Copy)]
 struct Tried {
-    right: u32,
-    all: u32,
+    right: usize,
+    all: usize,
 }
 
-// Prints a group's line.
-fn print_group(rt: &impl Print, name: &str, t: Tried) -> io::Result<()> {
-    let right = t.right;
-    let all = t.all;
-    println!(rt; "{name}{right} of {all}")
-}
-
-fn together(a: Tried, b: Tried) -> Tried {
-    Tried {
-        right: std::num::wrapping_add_u32(a.right, b.right),
-        all: std::num::wrapping_add_u32(a.all, b.all),
-    }
-}
-
-// The letters of the groups with lists to enter, and to write.
-const ENTERED: u8 = b'e';
-
-const WRITTEN: u8 = b'l';
-
-// Whether case n of a group comes out as its text says.
-fn agrees(rt: &impl Files, name: u8, n: usize) -> bool {
-    match name {
-        ENTERED => comma_lists::entered(rt, name, n),
-        WRITTEN => comma_lists::written(rt, name, n),
-        _ => sheets::judged(rt, name, n),
-    }
-}
-
-fn group(rt: &impl Files, name: u8, count: usize) -> Tried {
-    let mut right: u32 = 0;
-    let mut all: u32 = 0;
-    let mut n = 0;
-    while n < count {
-        if agrees(rt, name, n) {
-            right = std::num::wrapping_add_u32(right, 1);
+impl Tried {
+    fn with(self, other: Tried) -> Tried {
+        Tried {
+            right: self.right.saturating_add(other.right),
+            all: self.all.saturating_add(other.all),
         }
-        all = std::num::wrapping_add_u32(all, 1);
-        n += 1;
     }
-    Tried { right, all }
+}
+
+impl fmt::Display for Tried {
+    fn fmt<W: fmt::Write>(&self, f: &mut fmt::Formatter<W>) -> fmt::Result {
+        write!(f, "{} of {}", self.right, self.all)
+    }
+}
+
+// The cases of a group, whose files begin with its letter.
+fn group<F: Fn(Case) -> bool>(letter: char, count: usize, is_right: F) -> Tried
+    requires { F.IsAlwaysCallable is_right }
+{
+    let case = |number| Case {
+        group: letter,
+        number,
+    };
+    Tried {
+        right: (0..count).filter(|n| is_right(case(*n))).count(),
+        all: count,
+    }
+}
+
+// Whether the sheet of a case is judged as its text says: all of it, and as much as lotreport reads.
+fn is_judged(rt: &impl Files, case: Case) -> bool {
+    comes_out(rt, case, |sheet, _, buf| judge::judge(sheet, buf))
+        & comes_out(rt, case, |sheet, _, buf| printed::front_judged(sheet, buf))
 }
 
 fn main(rt: HostRuntime) -> io::Result<()> {
-    let handbook = group(&rt, b'h', 4);
-    print_group(&rt, "sheets of the handbook (002, 10.2): ", handbook)?;
-    let misleading = group(&rt, b'm', 9);
-    print_group(&rt, "sheets that mislead: ", misleading)?;
-    let vectors = group(&rt, b'v', 220);
-    print_group(&rt, "sheets of the vectors: ", vectors)?;
-    let entered = group(&rt, ENTERED, 120);
-    print_group(&rt, "lists of the vectors entered: ", entered)?;
-    let written = group(&rt, WRITTEN, 40);
-    print_group(&rt, "lists of the vectors written: ", written)?;
-    let sheets = together(together(handbook, misleading), vectors);
-    let all = together(sheets, together(entered, written));
-    print_group(&rt, "all: ", all)
+    let handbook = group('h', 4, |case| is_judged(&rt, case));
+    println!(rt; "sheets of the handbook (002, 10.2): {handbook}")?;
+    let misleading = group('m', 9, |case| is_judged(&rt, case));
+    println!(rt; "sheets that mislead: {misleading}")?;
+    let vectors = group('v', 220, |case| is_judged(&rt, case));
+    println!(rt; "sheets of the vectors: {vectors}")?;
+    let entered = group('e', 120, |case| comes_out(&rt, case, printed::entered));
+    println!(rt; "lists of the vectors entered: {entered}")?;
+    let written = group('l', 40, |case| comes_out(&rt, case, printed::written));
+    println!(rt; "lists of the vectors written: {written}")?;
+    let lists = entered.with(written);
+    let all = handbook.with(misleading).with(vectors).with(lists);
+    println!(rt; "all: {all}")
 }

@@ -17,6 +17,9 @@ use rules::{
 mod figures;
 mod values;
 
+// Where a number is cast with `as`, here and in what follows, the check proves that no bit of it is lost; `try_from` would be no plainer,
+// as it needs a value for the case that cannot be.
+
 // The mean in units of its last printed place, half up, with its side.
 #[tactic(auto, using(crate::proofs::ValueLaws::mean_laws), unfolding(rules::specs::Figures::mean_of))]
 fn mean(a: Attribute, f: Figures) -> Rounded

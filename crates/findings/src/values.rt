@@ -1,4 +1,5 @@
-// V/W.
+// V/W. `Served` and `HeadWithin` are asked for one by one: `Figures` and `Head` are plain data that others make too, so that neither
+// type can keep them, and a struct of both with a ghost field would be put together for one call: no plainer.
 ghost use Rattle.std.specs.Prelude.{◌≡◌};
 ghost use Rattle.rules.specs.Spread.{HeadWithin};
 ghost use Rattle.rules.specs.Figures.{deviation as rule·deviation, of_percentages, of_counts, ratio as rule·ratio};

@@ -17,7 +17,7 @@ pub struct Progress {
     pub last: u16,
 }
 
-// Nothing is read.
+// Nothing is read. No derived default: a stage has none, and one of its own for this call would be no plainer.
 pub fn start() -> Progress
     ensures { result ≡ at_first }
 {

@@ -52,24 +52,24 @@ pub order_is_free : OrderIsFree
 order_is_free cs ds ns ms t u p q e =
     let i = agrees p in
     let j = agrees q in
-    let s : view t ≡ view u = i.same ∙ (e ∙ sym j.same) in
+    let s : view t.now ≡ view u.now = i.same ∙ (e ∙ sym j.same) in
     record {
-      opens = λ l c r w a b. a.right ∙ (ap (λ (g : Ledger). open_on g l c) s ∙ sym b.right);
-      enters = λ k x r w a b. a.right i.sound ∙ (ap (λ (g : Ledger). enter_on g k x) s ∙ sym (b.right j.sound));
-      weighs = λ k c p r w a b. a.right i.sound ∙ (ap (λ (g : Ledger). weigh_on g k c p) s ∙ sym (b.right j.sound));
-      withdraws = λ k r w a b. a.right i.sound ∙ (ap (λ (g : Ledger). withdraw_on g k) s ∙ sym (b.right j.sound));
-      joins = λ o v f h d r w a b.
+      opens = λ κ₁ κ₂ l c r w x y a b. a.right ∙ (ap (λ (g : Ledger). open_on g l c) s ∙ sym b.right);
+      enters = λ κ₁ κ₂ k n r w x y a b. a.answers.right i.sound ∙ (ap (λ (g : Ledger). enter_on g k n) s ∙ sym (b.answers.right j.sound));
+      weighs = λ κ₁ κ₂ k c n r w x y a b. a.answers.right i.sound ∙ (ap (λ (g : Ledger). weigh_on g k c n) s ∙ sym (b.answers.right j.sound));
+      withdraws = λ κ₁ κ₂ k r w x y a b. a.answers.right i.sound ∙ (ap (λ (g : Ledger). withdraw_on g k) s ∙ sym (b.answers.right j.sound));
+      joins = λ κ₁ κ₂ κ₃ κ₄ o v f h d r w x y a b.
           let m = agrees f in
           let n = agrees h in
           a.right (i.sound, m.sound) ∙ (ap₂ (λ (x y : Ledger). join_on x y) s (m.same ∙ (d ∙ sym n.same)) ∙ sym (b.right (j.sound, n.sound)));
-      lists = λ κ₁ κ₂ l₁ l₂ e r w a b.
+      lists = λ κ₁ κ₂ κ₃ κ₄ l₁ l₂ e r w x y a b.
           a.right i.sound ∙ (ap₂ (λ (g : Ledger) (l : List ℕ). list_on g l) s e ∙ sym (b.right j.sound));
       writes = λ κ₁ κ₂ b₁ b₂ l r₁ r₂ a₁ a₂ x y.
-          same_sheet (view t) b₁.now b₂.now r₁ r₂ a₁.now a₂.now l
+          same_sheet (view t.now) b₁.now b₂.now r₁ r₂ a₁.now a₂.now l
           (x.right i.sound)
           (y.right j.sound ∙ ap (λ (g : Ledger). write_on g b₂.now) (sym s));
       writes_list = λ κ₁ κ₂ b₁ b₂ l r₁ r₂ a₁ a₂ x y.
-          same_list (view t) b₁.now b₂.now r₁ r₂ a₁.now a₂.now l
+          same_list (view t.now) b₁.now b₂.now r₁ r₂ a₁.now a₂.now l
           (x.right i.sound)
           (y.right j.sound ∙ ap (λ (g : Ledger). write_list_on g b₂.now) (sym s));
     }

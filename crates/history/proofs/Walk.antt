@@ -1,7 +1,10 @@
 -- The walk that finds the range, on every tally that a list of calls ends with. Assumes nothing.
-use Prim.Native.Nat.{◌≤◌, min}
+use Prim.Native.Nat.{ℕ, zero, suc, ◌≤◌, min}
 use native.Mathlib.Omega.{arith}
-use mathlib.Core.Path.{◌≡◌, ap}
+use mathlib.Core.Path.{◌≡◌, refl, ap}
+use mathlib.Core.List.{List}
+use lib.ListN.{length, take}
+use lib.Seq.{get_or-take, length-take-le}
 use Rattle.rules.specs.Limits.{widest, most_held}
 use Rattle.rules.specs.Contents.{largest}
 use Rattle.rules.specs.Ledger.{Ledger, containers}
@@ -12,7 +15,7 @@ use Rattle.rules.proofs.RangeLaws.{is_range, range_only}
 use Rattle.tally.specs.declared.Tally.{Tally}
 use Rattle.tally.specs.View.{view}
 use Rattle.tally.specs.Calls.{Sound}
-use Rattle.held_lists.specs.Places.{Different, RangeRead}
+use Rattle.held_lists.specs.Places.{stored, Different, RangeRead}
 use Rattle.report.proofs.Sound.{figures_are, low_results}
 use Rattle.history.specs.Walk.{Walked, EveryWalk}
 use Rattle.history.proofs.Agreement.{agrees}
@@ -27,11 +30,19 @@ walked g r most h =
 different : (t : Tally) → Sound t → Different t.lot.containers t.containers t.held
 different t s = record { apart = s.apart; above = s.above; inside = s.inside }
 
-sound_walked : (t : Tally) → Sound t → (r : Range) → RangeRead t.results (min t.held most_held) r → Walked (view t) r
+-- the map is that of the results that count
+stored_counted : (ks vs : List ℕ) (m n : ℕ) → n ≤ m → stored ks (take m vs) n ≡ stored ks vs n
+unfolding stored
+stored_counted ks vs m zero h = refl
+stored_counted ks vs m (suc n) h = simp (get_or-take m vs n 0 (omega arith), stored_counted ks vs m n (omega arith))
+
+sound_walked : (t : Tally) → Sound t → (r : Range) → RangeRead (take t.held t.results) (min (length (take t.held t.results)) most_held) r → Walked (view t) r
 sound_walked t s r h =
-    let all : min t.held most_held ≡ t.held = omega (arith, s.small) in
+    let size : length (take t.held t.results) ≡ t.held = length-take-le t.held t.results (omega (arith, s.small, s.values)) in
+    let all : min (length (take t.held t.results)) most_held ≡ t.held = omega (arith, size, s.small) in
+    let map = (rw all at h).map t.lot.containers t.containers (different t s) in
     walked (view t) r (omega (arith, ap (λ (f : Figures). f.largest) (figures_are t s), low_results t s))
-    ((rw all at h).map t.lot.containers t.containers (different t s))
+    (rw (stored_counted t.containers t.results t.held t.held (omega arith)) at map)
 
 pub every_walk : EveryWalk
 every_walk =

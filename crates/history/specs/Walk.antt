@@ -1,5 +1,5 @@
 -- The walk that finds the range, on every tally that a list of calls ends with: by what the map of the ledger holds.
-use Rattle.std.specs.Prelude.{ℕ, ◌-◌, ◌≡◌, List}
+use Rattle.std.specs.Prelude.{ℕ, ◌-◌, ◌≡◌, List, take}
 use base.Fml.{Lft}
 use Rattle.std.specs.Borrow.{Bor}
 use Rattle.rules.specs.Ledger.{Ledger, containers}
@@ -17,5 +17,5 @@ pub record Walked (g : Ledger) (r : Range) : Type 0 where
   pub shown : range g ≡ r.largest - r.smallest
 
 pub record EveryWalk : Type 0 where
-  pub walks : (cs : Calls) (ns : List Answer) (t : Tally) → Run cs ns t → (κ : Lft) (results : Bor (List ℕ)) → results.now ≡ t.results
-      → (r : Range) → RangeStep κ results t.held r → Walked (ledger cs) r
+  pub walks : (cs : Calls) (ns : List Answer) (t : Tally) → Run cs ns t → (κ : Lft) (results : Bor (List ℕ)) → results.now ≡ take t.held t.results
+      → (r : Range) → RangeStep κ results r → Walked (ledger cs) r

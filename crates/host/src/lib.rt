@@ -14,7 +14,6 @@ ghost use Rattle.codes.specs.Codes.{answer_code};
 ghost use Rattle.host.specs.Coding.{code_and_bytes, text_code, rewrite_on, call_code};
 
 use rules::Pans;
-use sheet::Answer;
 
 // The number of primary samples for so many containers of so many whole kg each.
 #[unsafe(no_mangle)]
@@ -88,10 +87,9 @@ pub extern "C" fn gelvorin_judge(sheet: &[u8], buf: &mut [u8]) -> u64
 pub extern "C" fn gelvorin_rewrite(sheet: &[u8], buf: &mut [u8]) -> u64
     ensures { code_and_bytes result buf.new ≡ rewrite_on sheet.now buf.old }
 {
-    let reading = sheet::read(sheet);
-    match reading.answer {
-        Answer::Accepted(_) => codes::size_code(writer::write(reading.tally, buf)),
-        Answer::Refused(e, _) => codes::size_code(Err(e)),
+    match sheet::read(sheet) {
+        Ok(reading) => codes::size_code(writer::write(reading.tally, buf)),
+        Err(fault) => codes::size_code(Err(fault.refusal)),
     }
 }
 

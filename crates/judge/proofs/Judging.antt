@@ -2,7 +2,7 @@
 use mathlib.Core.Path.{◌≡◌, refl, sym, ap, ◌∙◌}
 use mathlib.Core.Bool.{Bool, true, false}
 use mathlib.Core.List.{List}
-use Rattle.std.specs.Prelude.{Result}
+use Rattle.std.specs.Prelude.{Result, Err}
 use Prim.Native.Nat.{ℕ}
 use lib.Dec.{ltb}
 use lib.ListN.{length}
@@ -15,12 +15,15 @@ use Rattle.rules.specs.Ledger.{held}
 use Rattle.rules.specs.Report.{report_of}
 use Rattle.rules.specs.Reading.{read_of}
 use Rattle.rules.specs.Printing.{refused_line, printed_for, print_on}
+use Rattle.rules.specs.OnSheets.{line_of}
+use Rattle.rules.specs.declared.Fault.{Fault}
 use Rattle.rules.specs.declared.Refusal.{Refusal}
+use Rattle.rules.specs.declared.Refusal.TheVariants.{TooFew}
+use Rattle.rules.proofs.RefusalLaws.{refusal_by_number}
+use Rattle.tally.specs.declared.Tally.{Tally}
 use Rattle.tally.specs.View.{view}
 use Rattle.report.specs.Reports.{Reports}
-use Rattle.sheet.specs.declared.Answer.TheVariants.{Accepted, Refused}
-use Rattle.sheet.specs.declared.Reading.{Reading}
-use Rattle.sheet.specs.Promise.{ReadAs}
+use Rattle.sheet.specs.Promise.{FaultOf, TallyOf}
 
 -- ---- the report's answer says whether there were too few results
 laid_number : (b : Bool) (n : ℕ) (d e : List ℕ) → (pick b (refuses_text 16 d) (wrote n e)).number ≡ 15 → ⊥
@@ -37,22 +40,22 @@ too_few false few text d e q =
     absurd (unfold laid_in in laid_number (ltb (length d) (length text)) (length text) d (laid text d) (sym (ap (λ (t : TextAnswer). t.number) q)))
 
 -- ---- one law for each way
-module _ (s d : List ℕ) {r : Reading} (reads : ReadAs (read_of s) r) where
-  pub judged_refused : {e : Refusal} {line : ℕ} {x : TextAnswer} → r.answer ≡ Refused e line → x ≡ laid_in (refused_line (number_of e) line) d → x ≡ print_on s d
+module _ (s d : List ℕ) where
+  pub judged_refused : (f : Fault) → FaultOf (read_of s) f → {line : ℕ} → line ≡ line_of f.place → {x : TextAnswer} → x ≡ laid_in (refused_line (number_of f.refusal) line) d → x ≡ print_on s d
   unfolding printed_for
-  judged_refused q h = h ∙ rw (← reads.right, q) refl
+  judged_refused f reads q h = h ∙ rw (reads.right, q) refl
 
-  module _ {lines : ℕ} {e : List ℕ} {a : Result ℕ Refusal} (q : r.answer ≡ Accepted lines) (h : Reports r.tally d a e) where
-    accepted_is : laid_in (pick (ltb (held (view r.tally)) least_reported) (refused_line 15 lines) (report_of (view r.tally))) d ≡ print_on s d
+  module _ {t : Tally} {lines : ℕ} (reads : TallyOf (read_of s) t lines) {e : List ℕ} {a : Result ℕ Refusal} (h : Reports t d a e) where
+    accepted_is : laid_in (pick (ltb (held (view t)) least_reported) (refused_line 15 lines) (report_of (view t))) d ≡ print_on s d
     unfolding printed_for
-    accepted_is = rw (← reads.right, q) refl
+    accepted_is = rw reads.right refl
 
-    pub judged_text : ((text_answer a e).number ≡ 15 → ⊥) → text_answer a e ≡ print_on s d
+    pub judged_text : (a ≡ Err TooFew → ⊥) → text_answer a e ≡ print_on s d
     judged_text z =
-        enough (ltb (held (view r.tally)) least_reported) (refused_line 15 lines) (report_of (view r.tally)) d (text_answer a e) z (h.right reads.sound)
+        enough (ltb (held (view t)) least_reported) (refused_line 15 lines) (report_of (view t)) d (text_answer a e) (λ n. z (refusal_by_number a TooFew n)) (h.right reads.sound)
         ∙ accepted_is
 
-    pub judged_few : {x : TextAnswer} → text_answer a e ≡ refuses_text 15 e → x ≡ laid_in (refused_line 15 lines) e → x ≡ print_on s d
-    judged_few i g =
-        let t = sym i ∙ h.right reads.sound in
-        g ∙ (too_few (ltb (held (view r.tally)) least_reported) (refused_line 15 lines) (report_of (view r.tally)) d e t ∙ accepted_is)
+    pub judged_few : a ≡ Err TooFew → {x : TextAnswer} → x ≡ laid_in (refused_line 15 lines) e → x ≡ print_on s d
+    judged_few q g =
+        let few = sym (ap (λ (r : Result ℕ Refusal). text_answer r e) q) ∙ h.right reads.sound in
+        g ∙ (too_few (ltb (held (view t)) least_reported) (refused_line 15 lines) (report_of (view t)) d e few ∙ accepted_is)

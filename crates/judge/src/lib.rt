@@ -9,6 +9,7 @@ use rules::Refusal;
 
 // What lotreport prints for a sheet: the report of its tally, or the line of its first fault. A sheet with too few results is
 // refused at its last line, that of the 06 frame.
+#[tactic(auto, using(crate::proofs::Judging::judged_refused, crate::proofs::Judging::judged_text, crate::proofs::Judging::judged_few))]
 pub fn judge(sheet: &[u8], buf: &mut [u8]) -> Result<usize, Refusal>
     ensures { text_answer result buf.new ≡ print_on sheet.now buf.old }
 {
@@ -16,13 +17,10 @@ pub fn judge(sheet: &[u8], buf: &mut [u8]) -> Result<usize, Refusal>
         Err(fault) => refusal_lines::print_refused(buf, fault.refusal, fault.place.line()),
         Ok(reading) => match report::report(reading.tally, buf) {
             Ok(size) => Ok(size),
-            Err(refusal) => {
-                if refusal.number() == Refusal::TooFew.number() {
-                    refusal_lines::print_refused(buf, Refusal::TooFew, reading.lines)
-                } else {
-                    Err(refusal)
-                }
+            Err(Refusal::TooFew) => {
+                refusal_lines::print_refused(buf, Refusal::TooFew, reading.lines)
             }
+            Err(refusal) => Err(refusal),
         },
     }
 }

@@ -1,7 +1,6 @@
 -- What the reading of a comma list into a tally promises.
-use Rattle.std.specs.Prelude.{◌≡◌, List, ℕ, ◌<◌, Option, Result, Ok, Err, ⊤}
-use Rattle.rules.specs.Limits.{most_held}
-use Rattle.rules.specs.Numbers.{number_of, number_in}
+use Rattle.std.specs.Prelude.{◌≡◌, List, ℕ, Option, Result, Ok, Err, ⊤}
+use Rattle.rules.specs.Numbers.{number_of}
 use Rattle.rules.specs.Ledger.{Ledger}
 use Rattle.rules.specs.ListReading.{Listed, list_on}
 use Rattle.rules.specs.OnSheets.{file_of, line_of}
@@ -39,9 +38,8 @@ pub record Lists (t : Tally) (s : List ℕ) (e : Result ⊤ Fault) (u : Tally) :
 
 -- ---- one line after another
 -- a line
-pub record EntersEntry (t : Tally) (n : Option Entry) (e : Result ⊤ Refusal) (u : Tally) : Type 0 where
-  pub room : number_in e ≡ 0 → t.held < most_held
-  pub answers : Answers (Sound t) t (entry_on (view t) n) (outcome_of e u)
+abbrev pub EntersEntry : Tally → Option Entry → Result ⊤ Refusal → Tally → Type 0
+EntersEntry t n e u = Answers (Sound t) t (entry_on (view t) n) (outcome_of e u)
 
 -- what the lines that were taken say of the list on the ledger `was`, where that of the tally afterwards is `after`
 unfoldable pub told_by : Result ⊤ Fault → Ledger → Ledger → Listed

@@ -17,6 +17,7 @@ fn enter_entry(t: &mut Tally, entry: Option<Entry>) -> Result<(), Refusal>
 
 // The lines one after another, up to the first that is refused. Each begins where the one before it ended, so that the loop goes by that
 // place and not by a count.
+#[tactic(auto, using(crate::proofs::Entering::reached_start, crate::proofs::Entering::taken_all))]
 fn take_lines(t: &mut Tally, list: &[u8]) -> Result<(), Fault>
     ensures { Takes t.old list.now result t.new }
 {

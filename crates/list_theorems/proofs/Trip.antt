@@ -1,15 +1,13 @@
 -- Held results come back from the list that was written of them, and calls on sheets are those on tallies. Assumes nothing.
-use Rattle.std.specs.Prelude.{Result, Ok, Err}
-use mathlib.Core.Path.{◌≡◌, refl, sym, ap, ap₂, ◌∙◌}
+use Rattle.std.specs.Prelude.{Result, Ok, Err, ⊤}
+use mathlib.Core.Path.{◌≡◌, refl, sym, ap, ap₂, ◌∙◌, subst}
 use mathlib.Core.List.{List}
 use Prim.Native.Nat.{ℕ, ◌*◌, ◌≤◌}
 use native.Mathlib.Omega.{arith}
 use lib.ListN.{length, take}
-use borrow.Author.Tests.{eqb-false}
 use Rattle.rules.specs.Numbers.{TextAnswer, wrote, text_answer}
 use Rattle.rules.specs.Contents.{none}
 use Rattle.rules.specs.Cards.{open_number, cut_to_rows}
-use Rattle.rules.specs.Attributes.{attribute_of}
 use Rattle.rules.specs.Ledger.{Ledger, Judged, judged, held, with_contents, opened, enter_on, withdraw_on}
 use Rattle.rules.specs.Reading.{SheetOutcome, accepted, read_of}
 use Rattle.rules.specs.Writing.{sheet_of}
@@ -18,19 +16,18 @@ use Rattle.rules.specs.ListWriting.{list_of, write_list_on}
 use Rattle.rules.specs.OnSheets.{without_line, call_on, enter_sheet, withdraw_sheet, enter_list_sheet}
 use Rattle.rules.specs.declared.Card.{Card}
 use Rattle.rules.specs.declared.Refusal.{Refusal}
+use Rattle.rules.specs.declared.Fault.{Fault}
 use Rattle.rules.proofs.RefusalLaws.{never_zero}
 use Rattle.rules.proofs.TextLaws.{fits_is}
-use Rattle.tally.specs.View.{view}
+use Rattle.tally.specs.View.{Outcome, outcome_of, view}
 use Rattle.tally.specs.Calls.{Sound, Opened, answer}
 use Rattle.tally.specs.declared.Tally.{Tally}
-use Rattle.tally.specs.declared.Outcome.{Outcome}
 use Rattle.tally.proofs.Steps.{size_is_lem}
-use Rattle.list_reader.specs.declared.Listing.{Listing}
-use Rattle.list_reader.specs.Promise.{Lists}
+use Rattle.list_reader.specs.Promise.{listed, Lists}
 use Rattle.history.specs.Calls.{ledger}
 use Rattle.history.proofs.Agreement.{agrees}
 use Rattle.history.proofs.Texts.{laid_text, laid_length}
-use Rattle.round_trip_theorems.proofs.Writable.{open_cut, sound_placed, sound_writable}
+use Rattle.round_trip_theorems.proofs.Writable.{open_cut, sound_writable}
 use Rattle.round_trip_theorems.proofs.ResultLines.{accepted_as}
 use Rattle.round_trip_theorems.proofs.Back.{back}
 use Rattle.round_trip_theorems.proofs.Trip.{laid_down}
@@ -41,12 +38,20 @@ use Rattle.list_theorems.proofs.Lengths.{list_lines_lem, list_few}
 use Rattle.list_theorems.proofs.Longest.{calls, long}
 
 -- ---- a list that was written for t and is read into u, which has the lot and the card of t and holds nothing
-comes_back : (t u : Tally) (d e : List ℕ) (n : ℕ) (list : List ℕ) (r : Listing) → Sound t → Sound u → view u ≡ with_contents (view t) none
-    → wrote n e ≡ write_list_on (view t) d → list ≡ take n e → Lists u list r → ComesBack r (view t)
-comes_back t u d e n list r st su same w is x =
+ledger_listed : (r : Result ⊤ Fault) (g : Ledger) → (listed r g).ledger ≡ g
+ledger_listed (Ok a) g = refl
+ledger_listed (Err f) g = refl
+
+comes_back : (t u v : Tally) (d e : List ℕ) (n : ℕ) (list : List ℕ) (r : Result ⊤ Fault) → Sound t → Sound u → view u ≡ with_contents (view t) none
+    → wrote n e ≡ write_list_on (view t) d → list ≡ take n e → Lists u list r v → ComesBack r v (view t)
+comes_back t u v d e n list r st su same w is x =
     let text : list ≡ list_of (view t) = is ∙ (laid_text (list_of (view t)) d n e w).0 in
     let back = x.right su ∙ (ap₂ list_on same text ∙ written_back_lem t st) in
-    record { accepted = ap (λ (q : Listed). q.number) back; line = ap (λ (q : Listed). q.line) back; same = ap (λ (q : Listed). q.ledger) back }
+    record {
+      accepted = ap (λ (q : Listed). q.number) back;
+      line = ap (λ (q : Listed). q.line) back;
+      same = sym (ledger_listed r (view v)) ∙ ap (λ (q : Listed). q.ledger) back;
+    }
 
 -- an open of the lot and the card of t is accepted, and leaves such a tally
 empty : (t u : Tally) (g : Ledger) (c : Card) (o : Outcome) → Sound t → view t ≡ g → 1 ≤ t.lot.containers → cut_to_rows c ≡ g.card → Opened u g.lot c o
@@ -90,17 +95,18 @@ on_ledger_lem sheet g n e =
 pub list_trip : ListTrip
 list_trip =
     record {
-      back = λ cs ds ns ms t u p q e κ₁ b n a w κ₂ list r is x.
+      back = λ cs ds ns ms t u v p q e κ₁ b n a w κ₂ κ₃ list r is x.
           let i = agrees p in
           let j = agrees q in
           rw (← i.same)
-          (comes_back t u b.now a.now n list.now r i.sound j.sound
+          (comes_back t u.now v.now b.now a.now n list.now r i.sound j.sound
           (j.same ∙ (e ∙ ap (λ (g : Ledger). with_contents g none) (sym i.same)))
           (w.right i.sound) is x);
-      reopened = λ cs ns t p h u c o e v κ₁ b n a w κ₂ list r is x.
+      reopened = λ cs ns t p h κ o u c e f y κ₁ b n a w κ₂ κ₃ v z same list r is x.
           let i = agrees p in
-          let q = empty t u (ledger cs) c o i.sound i.same (rw (← i.same) at h) e v in
-          rw (← i.same) (comes_back t o.tally b.now a.now n list.now r i.sound q.0 q.1 (w.right i.sound) is x);
+          let q = empty t o.now (ledger cs) c (outcome_of e u.now) i.sound i.same (rw (← i.same) at h) f y in
+          rw (← i.same)
+          (comes_back t v.now z.now b.now a.now n list.now r i.sound (subst Sound (sym same) q.0) (ap view same ∙ q.1) (w.right i.sound) is x);
       each = λ cs ns t p κ b n a w.
           let i = agrees p in
           rw (← i.same) (omega (arith, laid_length (list_of (view t)) b.now n a.now (w.right i.sound), each t i.sound));

@@ -1,10 +1,9 @@
 -- Held results are written as a comma list, and read into an empty tally of the same lot and card they come back as held; how long a
 -- list is; and a call on the sheet of a tally is the call on the tally. Each step is what the called function's own contract promises.
-use Rattle.std.specs.Prelude.{◌≡◌, List, ℕ, zero, suc, ◌+◌, ◌*◌, ◌≤◌, length, take, Result, Ok}
+use Rattle.std.specs.Prelude.{◌≡◌, List, ℕ, zero, suc, ◌+◌, ◌*◌, ◌≤◌, length, take, Result, Ok, ⊤}
 use base.Fml.{Lft}
 use Rattle.std.specs.Borrow.{Bor, MutBor}
 use Rattle.rules.specs.Limits.{most_held, highest_x, widest}
-use Rattle.rules.specs.Numbers.{number_in}
 use Rattle.rules.specs.Contents.{none}
 use Rattle.rules.specs.Cards.{cut_to_rows}
 use Rattle.rules.specs.Lines.{lines_of}
@@ -16,20 +15,20 @@ use Rattle.rules.specs.OnSheets.{without_line, after_call, enter_sheet, withdraw
 use Rattle.rules.specs.declared.Lot.{Lot}
 use Rattle.rules.specs.declared.Card.{Card}
 use Rattle.rules.specs.declared.Refusal.{Refusal}
+use Rattle.rules.specs.declared.Fault.{Fault}
 use Rattle.tally.specs.View.{view}
 use Rattle.tally.specs.declared.Tally.{Tally}
-use Rattle.tally.specs.declared.Outcome.{Outcome}
-use Rattle.list_reader.specs.declared.Listing.{Listing}
+use Rattle.list_reader.specs.Promise.{listed}
 use Rattle.history.specs.Calls.{Calls, start, opens, enters, judge, ledger, Answer}
 use Rattle.history.specs.Run.{Run}
 use Rattle.history.specs.Steps.{OpenStep, WriteStep, ListStep, WriteListStep}
 use Rattle.round_trip_theorems.specs.Statement.{full_card}
 
--- a list is accepted, and the tally after it has lot, card and results of g
-pub record ComesBack (r : Listing) (g : Ledger) : Type 0 where
-  pub accepted : number_in r.answer ≡ 0
-  pub line : r.line ≡ 0
-  pub same : view r.tally ≡ g
+-- a list is accepted, and the tally u after it has lot, card and results of g
+pub record ComesBack (r : Result ⊤ Fault) (u : Tally) (g : Ledger) : Type 0 where
+  pub accepted : (listed r (view u)).number ≡ 0
+  pub line : (listed r (view u)).line ≡ 0
+  pub same : view u ≡ g
 
 -- a list was written, of so many bytes
 pub record IsWritten (w : Result ℕ Refusal) : Type 0 where
@@ -65,14 +64,15 @@ pub record AsOnLedger (sheet : List ℕ) (g : Ledger) : Type 0 where
 pub record ListTrip : Type 0 where
   -- what the list writer's call laid down for t, read into a tally of the same lot and card that holds nothing: the call accepts it, and
   -- the tally after it has the lot, the card and the results of t
-  pub back : (cs ds : Calls) (ns ms : List Answer) (t u : Tally) → Run cs ns t → Run ds ms u → ledger ds ≡ with_contents (ledger cs) none
+  pub back : (cs ds : Calls) (ns ms : List Answer) (t : Tally) (u v : MutBor Tally) → Run cs ns t → Run ds ms u.now → ledger ds ≡ with_contents (ledger cs) none
       → (κ₁ : Lft) (b : MutBor (List ℕ)) (n : ℕ) (a : MutBor (List ℕ)) → WriteListStep κ₁ t b (Ok n) a
-      → (κ₂ : Lft) (list : Bor (List ℕ)) (r : Listing) → list.now ≡ take n a.now → ListStep κ₂ u list r → ComesBack r (ledger cs)
+      → (κ₂ κ₃ : Lft) (list : Bor (List ℕ)) (r : Result ⊤ Fault) → list.now ≡ take n a.now → ListStep κ₂ κ₃ u list r v → ComesBack r v.now (ledger cs)
   -- the same into the tally that an open of this lot and card leaves, on any tally at all, once a lot is opened
   pub reopened : (cs : Calls) (ns : List Answer) (t : Tally) → Run cs ns t → 1 ≤ containers (ledger cs)
-      → (u : Tally) (c : Card) (o : Outcome) → cut_to_rows c ≡ (ledger cs).card → OpenStep u (ledger cs).lot c o
+      → (κ : Lft) (o u : MutBor Tally) (c : Card) (e : Result ⊤ Refusal) → cut_to_rows c ≡ (ledger cs).card → OpenStep κ o (ledger cs).lot c e u
       → (κ₁ : Lft) (b : MutBor (List ℕ)) (n : ℕ) (a : MutBor (List ℕ)) → WriteListStep κ₁ t b (Ok n) a
-      → (κ₂ : Lft) (list : Bor (List ℕ)) (r : Listing) → list.now ≡ take n a.now → ListStep κ₂ o.tally list r → ComesBack r (ledger cs)
+      → (κ₂ κ₃ : Lft) (v w : MutBor Tally) → v.now ≡ u.now
+      → (list : Bor (List ℕ)) (r : Result ⊤ Fault) → list.now ≡ take n a.now → ListStep κ₂ κ₃ v list r w → ComesBack r w.now (ledger cs)
   -- a list that is written has at most 13 bytes for each held result, none where nothing is held, and so at most 780
   pub each : (cs : Calls) (ns : List Answer) (t : Tally) → Run cs ns t → (κ : Lft) (b : MutBor (List ℕ)) (n : ℕ) (a : MutBor (List ℕ)) → WriteListStep κ t b (Ok n) a → n ≤ line_bytes * held (ledger cs)
   pub short : (cs : Calls) (ns : List Answer) (t : Tally) → Run cs ns t → (κ : Lft) (b : MutBor (List ℕ)) (n : ℕ) (a : MutBor (List ℕ)) → WriteListStep κ t b (Ok n) a → n ≤ longest_list

@@ -1,58 +1,64 @@
 // The lot and the card of an open.
-ghost use Rattle.std.specs.Prelude.{◌≤◌, length};
+ghost use Rattle.std.specs.Prelude.{◌+◌, ◌≤◌, ◌<◌};
 
-use crate::numbers;
+use crate::calls::OPENING;
 use rules::{CRITICALS, Card, Head, Lot, MOST_ROWS};
+use std::array;
 
-pub fn lot_of(call: &[u8]) -> Lot
-    requires { 1026 ≤ length call.now }
-{
-    Lot {
-        attribute: numbers::two(call, 2),
-        containers: numbers::two(call, 4),
-    }
+// The bytes of an open behind its first two, in which each number has a place of its own.
+#[derive(Clone, Copy)]
+pub struct Opening<'a> {
+    pub bytes: &'a [u8; OPENING],
 }
 
-// For each N from 0 on a number of four bytes.
-fn criticals_of(call: &[u8]) -> [u32; CRITICALS]
-    requires { 1026 ≤ length call.now }
-{
-    let mut critical = [0u32; CRITICALS];
-    let mut i = 0;
-    while i < CRITICALS {
-        critical[i] = numbers::four(call, 14 + 4 * i);
-        i += 1;
+impl Opening<'_> {
+    // The number that the two bytes from `at` on spell.
+    fn two(self, at: usize) -> u16
+        requires { at ≤ 1022 }
+    {
+        u16::from_be_bytes([self.bytes[at], self.bytes[at + 1]])
     }
-    critical
-}
 
-// One of the four numbers of each row; in the first row it stands at `first`.
-fn column_of(call: &[u8], first: usize) -> [u16; MOST_ROWS]
-    requires { (1026 ≤ length call.now) × (first ≤ 264) }
-{
-    let mut column = [0u16; MOST_ROWS];
-    let mut i = 0;
-    while i < MOST_ROWS {
-        column[i] = numbers::two(call, first + 8 * i);
-        i += 1;
+    // The number that the four bytes from `at` on spell.
+    fn four(self, at: usize) -> u32
+        requires { at ≤ 1020 }
+    {
+        let bytes = self.bytes;
+        u32::from_be_bytes([bytes[at], bytes[at + 1], bytes[at + 2], bytes[at + 3]])
     }
-    column
-}
 
-pub fn card_of(call: &[u8]) -> Card
-    requires { 1026 ≤ length call.now }
-{
-    Card {
-        head: Head {
-            factor: numbers::two(call, 6),
-            offset: numbers::two(call, 8),
-            seeds: numbers::two(call, 10),
-        },
-        critical: criticals_of(call),
-        rows: numbers::two(call, 12) as usize,
-        lowest: column_of(call, 258),
-        highest: column_of(call, 260),
-        bound: column_of(call, 262),
-        tolerated: column_of(call, 264),
+    pub fn lot(self) -> Lot {
+        Lot {
+            attribute: self.two(0),
+            containers: self.two(2),
+        }
+    }
+
+    // For each N from 0 on a number of four bytes.
+    fn criticals(self) -> [u32; CRITICALS] {
+        array::from_fn(|n| self.four(12 + 4 * n))
+    }
+
+    // One of the four numbers of each row; in the first row it stands at `first`.
+    fn column(self, first: usize) -> [u16; MOST_ROWS]
+        requires { first ≤ 262 }
+    {
+        array::from_fn(|row| self.two(first + 8 * row))
+    }
+
+    pub fn card(self) -> Card {
+        Card {
+            head: Head {
+                factor: self.two(4),
+                offset: self.two(6),
+                seeds: self.two(8),
+            },
+            critical: self.criticals(),
+            rows: usize::from(self.two(10)),
+            lowest: self.column(256),
+            highest: self.column(258),
+            bound: self.column(260),
+            tolerated: self.column(262),
+        }
     }
 }

@@ -1,101 +1,56 @@
-// A small function to each call, so that the compiler can do its work where the tally lies. Each lays the call's answer into the
-// buffer from `at` on, and gives the tally after it.
-ghost use Rattle.std.specs.Prelude.{◌≤◌, length};
+// The calls on the two tallies.
+ghost use Rattle.std.specs.Prelude.{◌≤◌, ◌<◌, length};
 
-use crate::widths::{REPORT, WRITE_LIST};
-use crate::{numbers, opening};
-use rules::{Pans, Refusal};
+use crate::answers::Answer;
+use crate::calls::{Call, Named, Text};
+use crate::opening::Opening;
+use rules::Refusal;
 use tally::Tally;
 
-// The number of an answer without a value: that of its refusal, or 0.
-fn number_in(answer: Result<(), Refusal>) -> u32 {
-    match answer {
-        Ok(()) => 0,
-        Err(refusal) => refusal.number(),
+fn written(t: Tally, text: Text, lent: &mut [u8]) -> Result<usize, Refusal> {
+    match text {
+        Text::Report => report::report(t, lent),
+        Text::Sheet => writer::write(t, lent),
+        Text::List => list_writer::write_list(t, lent),
     }
 }
 
-fn lay_answer(buf: &mut [u8], at: usize, answer: Result<(), Refusal>) {
-    numbers::lay(buf, at, number_in(answer) as usize);
-}
-
-pub fn opened(t: Tally, call: &[u8], buf: &mut [u8], at: usize) -> Tally
-    requires { 1026 ≤ length call.now }
+// Joins the tally itself or the other one into it.
+fn joined(tallies: &mut [Tally; 2], on: usize, itself: bool) -> Result<(), Refusal>
+    requires { on < 2 }
 {
-    let outcome = tally::open(t, opening::lot_of(call), opening::card_of(call));
-    lay_answer(buf, at, outcome.answer);
-    outcome.tally
+    let other = tallies[if itself { on } else { 1 - on }];
+    tallies[on].join(&other)
 }
 
-pub fn entered(t: Tally, container: u16, x: u16, buf: &mut [u8], at: usize) -> Tally {
-    let outcome = tally::enter(t, container, x);
-    lay_answer(buf, at, outcome.answer);
-    outcome.tally
-}
-
-pub fn weighed(t: Tally, call: &[u8], buf: &mut [u8], at: usize) -> Tally
-    requires { 14 ≤ length call.now }
+// Makes a call. `lent` are the bytes for a text.
+fn made(tallies: &mut [Tally; 2], named: Named, lent: &mut [u8]) -> Answer
+    requires { named.on < 2 }
 {
-    let pans = Pans {
-        component: weights::float(numbers::four(call, 6)),
-        remainder: weights::float(numbers::four(call, 10)),
-    };
-    let outcome = tally::weigh(t, numbers::two(call, 2), numbers::two(call, 4), pans);
-    lay_answer(buf, at, outcome.answer);
-    outcome.tally
-}
-
-pub fn withdrawn(t: Tally, container: u16, buf: &mut [u8], at: usize) -> Tally {
-    let outcome = tally::withdraw(t, container);
-    lay_answer(buf, at, outcome.answer);
-    outcome.tally
-}
-
-pub fn joined(t: Tally, other: Tally, buf: &mut [u8], at: usize) -> Tally {
-    let outcome = tally::join(t, other);
-    lay_answer(buf, at, outcome.answer);
-    outcome.tally
-}
-
-// A number, and a line or a length in two bytes.
-fn lay_three(buf: &mut [u8], at: usize, number: u32, more: usize) {
-    if buf.len() <= at {
-        return;
-    }
-    numbers::lay(buf, at, number as usize);
-    numbers::lay(buf, at + 1, more / 256);
-    numbers::lay(buf, at + 2, more);
-}
-
-// Of a comma list: the number, and the line of its refusal.
-pub fn listed(t: Tally, list: &[u8], buf: &mut [u8], at: usize) -> Tally {
-    let outcome = list_reader::read_list(t, list);
-    lay_three(buf, at, number_in(outcome.answer), outcome.line);
-    outcome.tally
-}
-
-// A report, a comma list or, for any other kind, a sheet.
-fn text_of(t: Tally, kind: u8, lent: &mut [u8]) -> Result<usize, Refusal> {
-    match kind {
-        REPORT => report::report(t, lent),
-        WRITE_LIST => list_writer::write_list(t, lent),
-        _ => writer::write(t, lent),
+    let t = &mut tallies[named.on];
+    match named.call {
+        Call::Open(bytes) => {
+            let opening = Opening { bytes };
+            Answer::from(t.open(opening.lot(), opening.card()))
+        }
+        Call::Enter { container, x } => Answer::from(t.enter(container, x)),
+        Call::Withdraw { container } => Answer::from(t.withdraw(container)),
+        Call::Join { itself } => Answer::from(joined(tallies, named.on, itself)),
+        Call::Weigh {
+            container,
+            status,
+            pans,
+        } => Answer::from(t.weigh(container, status, pans)),
+        Call::List { lines } => Answer::from(list_reader::read_list(t, lines)),
+        Call::Write { text, .. } => Answer::from(written(*t, text, lent)),
     }
 }
 
-// The number, the two bytes of the length, and the buffer that is lent: `room` bytes.
-pub fn texted(t: Tally, kind: u8, buf: &mut [u8], at: usize, room: usize) {
-    if buf.len() < at {
-        return;
-    }
-    if buf.len() - at < room {
-        return;
-    }
-    if room < 3 {
-        return;
-    }
-    match text_of(t, kind, &mut buf[at + 3..at + room]) {
-        Ok(size) => lay_three(buf, at, 0, size),
-        Err(refusal) => lay_three(buf, at, refusal.number(), 0),
-    }
+// Makes a call and lays its answer into the bytes that it has.
+pub fn answer(tallies: &mut [Tally; 2], named: Named, bytes: &mut [u8])
+    requires { named.on < 2 }
+{
+    let head = bytes.len().min(3);
+    let (head, lent) = bytes.split_at_mut(head);
+    made(tallies, named, lent).lay(head);
 }

@@ -57,7 +57,8 @@ pub fn print_refused(buf: &mut [u8], e: Refusal, line: usize) -> Result<usize, R
     print_numbers(buf, &[u64::from(e.number()), line as u64])
 }
 
-// A fault in one of two files: its number, its file and the line there.
+// A fault in one of two files: its number, its file and the line there. File and line are any numbers, as they are printed: a `Place` is a
+// narrower type, and would ask more of callers.
 #[tactic(auto, unfolding(rules::specs::Printing::fault_line, crate::specs::Numbered::numbers_line))]
 pub fn print_fault(buf: &mut [u8], e: Refusal, file: u32, line: usize) -> Result<usize, Refusal>
     ensures { text_answer result buf.new ≡ laid_in (fault_line (number_of e) file line) buf.old }

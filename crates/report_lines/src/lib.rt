@@ -1,4 +1,5 @@
-// The five lines of a report. Each writer of a line gets the rest of the buffer, behind the lines already laid down.
+// The five lines of a report. Each writer of a line gets the rest of the buffer, behind the lines already laid down; inside a line each
+// piece gets the place behind the one before.
 #![tactic(auto)]
 
 ghost use Rattle.std.specs.Prelude.{◌≡◌, ◌++◌};

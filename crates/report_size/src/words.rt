@@ -23,6 +23,8 @@ pub fn mark(side: Side) -> &'static [u8]
     }
 }
 
+// Two functions, each a table of words: one with the words as parameters would be no plainer.
+
 // The verdict of H or of R.
 #[tactic(auto, unfolding(rules::specs::Report::verdict_word))]
 pub fn verdict(v: Verdict) -> &'static [u8]

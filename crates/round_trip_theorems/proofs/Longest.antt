@@ -28,7 +28,7 @@ use Rattle.writer.specs.Promise.{counted, is_filled, filled}
 use Rattle.writer.proofs.Counting.{counted_most, filled_none, filled_next}
 use Rattle.writer.proofs.Lengths.{length_with, sheet_length}
 use Rattle.history.specs.Calls.{judge, ledger}
-use Rattle.round_trip_theorems.specs.Statement.{ReadsAs, full_lot, full_card, filling, zero_line, zero_lines, weighed_sheet}
+use Rattle.round_trip_theorems.specs.Statement.{ReadsAs, full_lot, full_card, filling, zero_lines, weighed_sheet}
 use Rattle.round_trip_theorems.proofs.Writable.{Writable, made_writable}
 use Rattle.round_trip_theorems.proofs.Reached.{Reaches}
 use Rattle.round_trip_theorems.proofs.ResultLines.{upto, upto_above, upto_none, upto_size, upto_more, accepted_as, enter_good, ResultsReadBack}

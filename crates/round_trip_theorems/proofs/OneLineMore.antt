@@ -1,16 +1,15 @@
 -- The longest accepted sheet with one line more, of the most bytes: without its last byte it is refused with another number. So no fewer bytes
 -- decide what is printed. Assumes nothing.
 use mathlib.Core.Path.{◌≡◌, refl, sym, ap, ◌∙◌}
-use mathlib.Core.Bool.{Bool, true, false, true≢false}
-use mathlib.Core.List.{List, [], ◌∷◌, ◌++◌}
+use mathlib.Core.Bool.{true, false, true≢false}
+use mathlib.Core.List.{List, ◌++◌}
 use Prim.Native.Nat.{ℕ, ◌+◌}
-use native.Mathlib.Omega.{arith}
 use lib.ListN.{length, get_or, take}
 use lib.Seq.{take-append-add}
 use borrow.Author.Tests.{eqb-false}
 use Rattle.rules.specs.Limits.{most_digits}
 use Rattle.rules.specs.Text.{decimals, decimal}
-use Rattle.rules.specs.Lines.{unended, cut_from, lines_of}
+use Rattle.rules.specs.Lines.{cut_from, lines_of}
 use Rattle.rules.specs.Fields.{all_digits, value_of, number_behind, number, field_of, digits, digit_of}
 use Rattle.rules.specs.Frames.{balance_frame, kind_frame, frame_of}
 use Rattle.rules.specs.Stages.{may_stand, is_ended}

@@ -9,11 +9,11 @@ use lib.ListN.{length, take}
 use borrow.Author.Tests.{eq-eqb, ne_eqb, eqb-false}
 use Rattle.rules.specs.Numbers.{TextAnswer, wrote, text_answer}
 use Rattle.rules.specs.Text.{laid_in}
-use Rattle.rules.specs.Lines.{lines_of}
-use Rattle.rules.specs.Ledger.{Ledger, containers}
-use Rattle.rules.specs.Reading.{accepted, read_of}
+use Rattle.rules.specs.Ledger.{Ledger}
+use Rattle.rules.specs.Reading.{read_of}
 use Rattle.rules.specs.Writing.{sheet_of, write_on}
 use Rattle.rules.specs.declared.Refusal.{Refusal}
+use Rattle.rules.specs.declared.Fault.{Fault}
 use Rattle.rules.proofs.RefusalLaws.{never_zero}
 use Rattle.rules.proofs.TextLaws.{fits_is}
 use Rattle.reading_theorems.specs.Lengths.{longest_written}
@@ -22,10 +22,8 @@ use Rattle.reading_theorems.proofs.SheetLength.{none_longer}
 use Rattle.tally.specs.View.{view}
 use Rattle.tally.specs.Calls.{Sound}
 use Rattle.tally.specs.declared.Tally.{Tally}
-use Rattle.sheet.specs.declared.Answer.{Answer}
-use Rattle.sheet.specs.declared.Answer.TheVariants as answer
 use Rattle.sheet.specs.declared.Reading.{Reading}
-use Rattle.sheet.specs.Promise.{outcome_of}
+use Rattle.sheet.specs.Promise.{ReadAs}
 use Rattle.history.specs.Calls.{ledger}
 use Rattle.history.proofs.Agreement.{agrees}
 use Rattle.history.proofs.Texts.{laid_text, laid_length}
@@ -36,12 +34,11 @@ use Rattle.round_trip_theorems.proofs.Longest.{calls, long, full_writable, writt
 use Rattle.round_trip_theorems.proofs.OneLineMore.{needed}
 
 -- ---- the reader's answer to a sheet that the definition accepts
-accepts : (o : Answer) (t : Tally) (g : Ledger) (n : ℕ) → outcome_of o t ≡ accepted g n → (o ≡ answer.Accepted n) × (view t ≡ g)
-accepts (answer.Accepted m) t g n q = (ap answer.Accepted (same_lines q), same_ledger q)
-accepts (answer.Refused e m) t g n q = refused_not q
-
-reads : (sheet : List ℕ) (r : Reading) (g h : Ledger) → ReadsAs sheet g → g ≡ h → outcome_of r.answer r.tally ≡ read_of sheet → Yields sheet r h
-reads sheet r g h q e x = let p = accepts r.answer r.tally g _ (x ∙ q) in record { accepted = p.0; same = p.1 ∙ e }
+reads : (sheet : List ℕ) (r : Result Reading Fault) (g h : Ledger) → ReadsAs sheet g → g ≡ h → ReadAs (read_of sheet) r → Yields sheet r h
+reads sheet (Ok r) g h q e x =
+    let p = sym x.right ∙ q in
+    record { reading = r; accepted = refl; lines = same_lines p; same = same_ledger p ∙ e }
+reads sheet (Err f) g h q e x = refused_not (sym x.right ∙ q)
 
 -- ---- what the writer lays down
 -- a lot was opened, and it is the sheet, of which all bytes are there
@@ -77,17 +74,17 @@ trip =
     record {
       back = λ cs ns t run κ₁ b n a w κ₂ sheet r e x.
           let i = agrees run in
-          reads sheet.now r (view t) (ledger cs) (rw e (laid_down t b.now a.now n i.sound (w.right i.sound))) i.same x.right;
+          reads sheet.now r (view t) (ledger cs) (rw e (laid_down t b.now a.now n i.sound (w.right i.sound))) i.same x;
       written = λ cs ns t run h κ b w a room x.
           let i = agrees run in
           room_serves t b.now a.now w i.sound (rw (← i.same) at h) room (x.right i.sound);
       again = λ sheet g n q. back g (yields sheet g n q).0;
-      most = λ κ sheet r n x a. none_longer sheet.now (view r.tally) n (sym x.right ∙ ap (λ (o : Answer). outcome_of o r.tally) a);
+      most = λ κ sheet r x. none_longer sheet.now (view r.tally) r.lines x.right;
       short = λ cs ns t run κ b n a w. let i = agrees run in no_longer t b.now a.now n i.sound (w.right i.sound);
       calls = calls;
       long = long;
-      reached = λ κ sheet r e x. reads sheet.now r _ _ (rw e (back _ full_writable)) refl x.right;
+      reached = λ κ sheet r e x. reads sheet.now r _ _ (rw e (back _ full_writable)) refl x;
       heavy = heavy;
-      weighed = λ κ sheet r e x. reads sheet.now r _ _ (rw e weighed_back) refl x.right;
+      weighed = λ κ sheet r e x. reads sheet.now r _ _ (rw e weighed_back) refl x;
       needed = needed;
     }

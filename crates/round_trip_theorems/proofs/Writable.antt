@@ -8,7 +8,7 @@ use lib.ListN.{length, get_or, take}
 use lib.Seq.{get_or-take, length-take-le}
 use borrow.Author.Tests.{eq-eqb}
 use Rattle.rules.specs.Limits.{most_held, criticals, most_rows, highest_x, widest}
-use Rattle.rules.specs.Contents.{Contents, free, holds, none, put, one, total}
+use Rattle.rules.specs.Contents.{Contents, free, holds, put, one, total}
 use Rattle.rules.specs.Cards.{open_number, cut_to_rows}
 use Rattle.rules.specs.Ledger.{Ledger, containers, enter_number}
 use Rattle.rules.specs.Lines.{lines_of}

@@ -14,10 +14,10 @@ use Rattle.rules.specs.Printing.{printed_for}
 use Rattle.rules.specs.declared.Lot.{Lot}
 use Rattle.rules.specs.declared.Card.{Card}
 use Rattle.rules.specs.declared.Refusal.{Refusal}
+use Rattle.rules.specs.declared.Fault.{Fault}
 use Rattle.reading_theorems.specs.Lengths.{longest_written, longest_read}
 use Rattle.tally.specs.View.{view}
 use Rattle.tally.specs.declared.Tally.{Tally}
-use Rattle.sheet.specs.declared.Answer.TheVariants.{Accepted}
 use Rattle.sheet.specs.declared.Reading.{Reading}
 use Rattle.history.specs.Calls.{Calls, start, opens, enters, judge, ledger, Answer}
 use Rattle.history.specs.Run.{Run}
@@ -28,9 +28,11 @@ abbrev pub ReadsAs : List ℕ → Ledger → Type 0
 ReadsAs sheet g = read_of sheet ≡ accepted g (length (lines_of sheet))
 
 -- a reading accepts the sheet, to its last line, and yields g
-pub record Yields (sheet : List ℕ) (r : Reading) (g : Ledger) : Type 0 where
-  pub accepted : r.answer ≡ Accepted (length (lines_of sheet))
-  pub same : view r.tally ≡ g
+pub record Yields (sheet : List ℕ) (r : Result Reading Fault) (g : Ledger) : Type 0 where
+  pub reading : Reading
+  pub accepted : r ≡ Ok reading
+  pub lines : reading.lines ≡ length (lines_of sheet)
+  pub same : view reading.tally ≡ g
 
 -- what was written has so many bytes
 pub record WrittenAs (w : Result ℕ Refusal) : Type 0 where
@@ -89,7 +91,7 @@ pub record Trip : Type 0 where
   -- what the writer's call laid down for a tally that a list of calls ends with, one read from a sheet among them: the reader's call
   -- accepts it, and what it yields is the list's ledger
   pub back : (cs : Calls) (ns : List Answer) (t : Tally) → Run cs ns t → (κ₁ : Lft) (b : MutBor (List ℕ)) (n : ℕ) (a : MutBor (List ℕ)) → WriteStep κ₁ t b (Ok n) a
-      → (κ₂ : Lft) (sheet : Bor (List ℕ)) (r : Reading) → sheet.now ≡ take n a.now → ReadStep κ₂ sheet r → Yields sheet.now r (ledger cs)
+      → (κ₂ : Lft) (sheet : Bor (List ℕ)) (r : Result Reading Fault) → sheet.now ≡ take n a.now → ReadStep κ₂ sheet r → Yields sheet.now r (ledger cs)
   -- such a tally is written, in whatever order its results are stored, once a lot is opened and where the buffer has room for the
   -- longest sheet that is written
   pub written : (cs : Calls) (ns : List Answer) (t : Tally) → Run cs ns t → 1 ≤ containers (ledger cs) → (κ : Lft) (b : MutBor (List ℕ)) (w : Result ℕ Refusal) (a : MutBor (List ℕ)) → longest_written ≤ length b.now → WriteStep κ t b w a → WrittenAs w
@@ -100,11 +102,11 @@ pub record Trip : Type 0 where
   -- and one has that length: each of these calls is accepted, and the sheet of what they end with is accepted
   pub calls : (n : ℕ) → n ≤ most_held → (judge (filling n)).number ≡ 0
   pub long : length (sheet_of (ledger (filling most_held))) ≡ longest_written
-  pub reached : (κ : Lft) (sheet : Bor (List ℕ)) (r : Reading) → sheet.now ≡ sheet_of (ledger (filling most_held)) → ReadStep κ sheet r → Yields sheet.now r (ledger (filling most_held))
+  pub reached : (κ : Lft) (sheet : Bor (List ℕ)) (r : Result Reading Fault) → sheet.now ≡ sheet_of (ledger (filling most_held)) → ReadStep κ sheet r → Yields sheet.now r (ledger (filling most_held))
   -- no sheet that is accepted is longer than 3,469 bytes
-  pub most : (κ : Lft) (sheet : Bor (List ℕ)) (r : Reading) (n : ℕ) → ReadStep κ sheet r → r.answer ≡ Accepted n → length sheet.now ≤ longest_read
+  pub most : (κ : Lft) (sheet : Bor (List ℕ)) (r : Reading) → ReadStep κ sheet (Ok r) → length sheet.now ≤ longest_read
   -- and one has that length, with the same lot, card and results
   pub heavy : length weighed_sheet ≡ longest_read
-  pub weighed : (κ : Lft) (sheet : Bor (List ℕ)) (r : Reading) → sheet.now ≡ weighed_sheet → ReadStep κ sheet r → Yields sheet.now r (ledger (filling most_held))
+  pub weighed : (κ : Lft) (sheet : Bor (List ℕ)) (r : Result Reading Fault) → sheet.now ≡ weighed_sheet → ReadStep κ sheet r → Yields sheet.now r (ledger (filling most_held))
   -- one byte fewer than the longest accepted sheet and one line more have (reading_theorems: bytes_that_decide) does not decide what is printed
   pub needed : LastByteNeeded

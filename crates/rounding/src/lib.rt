@@ -54,7 +54,9 @@ fn round(whole: u64, rest: u64, under: u64) -> Rounded
     }
 }
 
-// scale * over / under, where no number on the way can wrap; zeros where one could.
+// scale * over / under, where no number on the way can wrap; zeros where one could, and no `None`: each caller's numbers can be worked
+// out, so that it would have an arm that never runs. `over` and `under` are no `Fraction`, as one caller of four has one: the others
+// would put it together for the call, which is no plainer.
 #[tactic(auto, using(crate::proofs::DividingLaws::parted, crate::proofs::DividingLaws::divided))]
 pub fn divide(scale: u64, over: u64, under: u64) -> Division
     ensures { result ≡ division_of scale over under }

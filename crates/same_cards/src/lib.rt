@@ -7,6 +7,8 @@ ghost use Rattle.rules.specs.Cards.{same_rows, same_good};
 
 use rules::{Card, MOST_ROWS};
 
+// By hand, as places past the last row are left aside: a derived equality would look at them.
+
 // Whether the first n rows of two cards are the same.
 #[tactic(auto, using(crate::proofs::Compared::first_rows))]
 fn same_rows(c: &Card, d: &Card, n: usize) -> bool

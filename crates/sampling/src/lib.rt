@@ -13,7 +13,8 @@ const SMALL: u32 = 15;
 
 const UNIT: u32 = 100;
 
-// How many parts n is divided into, a begun one counted.
+// How many parts n is divided into, a begun one counted: the library's method, of which the contract says once for its four callers that
+// it is the definition's quotient.
 fn begun_parts(n: u32, part: u32) -> u32
     requires { 0 < part }
     ensures { result ≡ begun_parts n part }

@@ -4,79 +4,71 @@ use mathlib.Core.Bool.{false}
 use mathlib.Core.List.{List}
 use Prim.Native.Nat.{ℕ, ◌<◌}
 use native.Mathlib.Omega.{arith}
+use borrow.Author.Tests.{ne_eqb}
+use Rattle.std.specs.Prelude.{Result, Ok, Err, ⊤, IsErrAnd}
 use Rattle.rules.specs.Limits.{widest}
-use Rattle.rules.specs.Numbers.{number_of}
+use Rattle.rules.specs.Numbers.{number_of, number_in}
 use Rattle.rules.specs.Contents.{is_held}
-use Rattle.rules.specs.Ledger.{Ledger, Judged, enter_on, withdraw_on}
-use Rattle.rules.specs.Reading.{read_of}
-use Rattle.rules.specs.ListReading.{Listed, list_on}
-use Rattle.rules.specs.OnSheets.{SheetAnswer, faulty, without_line, after_call, call_on, enter_sheet, withdraw_sheet, enter_list_sheet}
+use Rattle.rules.specs.Ledger.{Ledger, enter_on, withdraw_on}
+use Rattle.rules.specs.Reading.{SheetOutcome}
+use Rattle.rules.specs.ListReading.{Listed}
+use Rattle.rules.specs.OnSheets.{file_of, in_call, as_written, on_sheet_answer, without_line, call_on}
+use Rattle.rules.specs.declared.Fault.{Fault}
 use Rattle.rules.specs.declared.Refusal.{Refusal}
+use Rattle.rules.proofs.RefusalLaws.{never_zero}
 use Rattle.held_lists.proofs.Stored.{stored_free}
-use Rattle.tally.specs.View.{view}
+use Rattle.tally.specs.View.{view, outcome_of}
 use Rattle.tally.specs.Calls.{Sound, Answers}
 use Rattle.tally.specs.declared.Tally.{Tally}
-use Rattle.tally.specs.declared.Outcome.{Outcome}
-use Rattle.sheet.specs.Promise.{ReadAs}
-use Rattle.sheet.specs.declared.Answer.TheVariants.{Accepted, Refused}
-use Rattle.sheet.specs.declared.Reading.{Reading}
-use Rattle.list_reader.specs.Promise.{Lists}
-use Rattle.list_reader.specs.declared.Listing.{Listing}
+use Rattle.writer.specs.Promise.{Wrote}
+use Rattle.sheet.specs.Promise.{FaultOf, TallyOf}
+use Rattle.list_reader.specs.Promise.{listed}
 use Rattle.narrowed.specs.Narrowed.{kept_container, kept_x}
 use Rattle.narrowed.proofs.Answered.{enter_kept, withdraw_kept}
-use Rattle.sheet_calls.specs.Promise.{listed_as}
 
--- ---- the sheet's fault, or what the call on its ledger comes to
-module _ (s d : List ℕ) (file : ℕ) (call : Ledger → Listed) {r : Reading} (reads : ReadAs (read_of s) r) where
-  at_fault : {e : Refusal} {line : ℕ} → r.answer ≡ Refused e line → faulty (number_of e) 1 line d ≡ call_on file (read_of s) call d
-  at_fault q = rw (← reads.right, q) refl
+-- ---- each way that a call goes, on a sheet whose outcome is o
+module _ (o : SheetOutcome) (file : ℕ) (call : Ledger → Listed) (d : List ℕ) where
+  -- the sheet's fault
+  pub at_fault : (r : Result ℕ Fault) (f : Fault) → IsErrAnd r (λ g. g ≡ f) → FaultOf o f → on_sheet_answer r d ≡ call_on file o call d
+  at_fault (Ok n) f h q = absurd h
+  at_fault (Err g) f h q = rw (h, q.right, q.file) refl
 
-  at_call : {lines : ℕ} {x : SheetAnswer} → r.answer ≡ Accepted lines → x ≡ after_call file (call (view r.tally)) d → x ≡ call_on file (read_of s) call d
-  at_call q h = h ∙ rw (← reads.right, q) refl
+  module _ {t : Tally} {lines : ℕ} (reads : TallyOf o t lines) (u : Tally) where
+    -- the call's refusal
+    pub at_refusal : (r : Result ℕ Fault) (f : Fault) → IsErrAnd r (λ g. g ≡ f) → file_of f.place ≡ file → listed (Err f) (view u) ≡ call (view t) → on_sheet_answer r d ≡ call_on file o call d
+    at_refusal (Ok n) f h p q = absurd h
+    at_refusal (Err g) f h p q = rw (h, reads.right, ← q, p, ne_eqb (number_of f.refusal) 0 (never_zero f.refusal)) refl
 
--- a faulty sheet is told the same by each call
-module _ (s d : List ℕ) {r : Reading} (reads : ReadAs (read_of s) r) {e : Refusal} {line : ℕ} (q : r.answer ≡ Refused e line) where
-  pub enter_fault : (k x : ℕ) → faulty (number_of e) 1 line d ≡ enter_sheet s k x d
-  unfolding enter_sheet
-  enter_fault k x = at_fault s d 0 (λ g. without_line (enter_on g k x)) reads q
+    module _ {a : ⊤} (q : listed (Ok a) (view u) ≡ call (view t)) (sound : Sound u) {b : List ℕ} where
+      -- the writer's refusal
+      pub at_unwritten : (r : Result ℕ Fault) {e : Refusal} → IsErrAnd r (λ g. g ≡ in_call e) → Wrote u d b (Err e) → on_sheet_answer r b ≡ call_on file o call d
+      at_unwritten (Ok n) h w = absurd h
+      at_unwritten (Err g) h w = rw (h, reads.right, ← q) (ap as_written (w.right sound))
 
-  pub withdraw_fault : (k : ℕ) → faulty (number_of e) 1 line d ≡ withdraw_sheet s k d
-  unfolding withdraw_sheet
-  withdraw_fault k = at_fault s d 0 (λ g. without_line (withdraw_on g k)) reads q
+      -- the sheet after it
+      pub at_written : {n : ℕ} → Wrote u d b (Ok n) → on_sheet_answer (Ok n) b ≡ call_on file o call d
+      at_written w = rw (reads.right, ← q) (ap as_written (w.right sound))
 
-  pub list_fault : (list : List ℕ) → faulty (number_of e) 1 line d ≡ enter_list_sheet s list d
-  unfolding enter_list_sheet
-  list_fault list = at_fault s d 2 (λ g. list_on g list) reads q
+-- ---- the calls, of numbers of any size
+abbrev pub entering : ℕ → ℕ → Ledger → Listed
+entering k x g = without_line (enter_on g k x)
 
--- ---- a sound tally holds neither container 0 nor one above the widest number
+abbrev pub withdrawing : ℕ → Ledger → Listed
+withdrawing k g = without_line (withdraw_on g k)
+
 module _ (t : Tally) (sound : Sound t) where
+  -- a sound tally holds neither container 0 nor one above the widest number
   none_at_zero : is_held ((view t).contents 0) ≡ false
   none_at_zero = ap is_held (stored_free t.containers t.results t.held 0 (λ i h e. omega (arith, sound.above i h)))
 
   none_above : (k : ℕ) → widest < k → is_held ((view t).contents k) ≡ false
   none_above k w = ap is_held (stored_free t.containers t.results t.held k (λ i h e. omega (arith, sound.inside i h, sound.few)))
 
--- ---- the calls
-module _ (s d : List ℕ) {r : Reading} (reads : ReadAs (read_of s) r) {lines : ℕ} (q : r.answer ≡ Accepted lines) {o : Outcome} {a : SheetAnswer} where
-  pub entered_is : {k' x' : ℕ} (k x : ℕ) → k' ≡ kept_container k → x' ≡ kept_x x → Answers (Sound r.tally) r.tally (enter_on (view r.tally) k' x') o
-      → (Sound o.tally → a ≡ after_call 0 (listed_as o.answer 0 o.tally) d) → a ≡ enter_sheet s k x d
-  unfolding enter_sheet
-  entered_is {k'} {x'} k x e f g h =
-      let kept : enter_on (view r.tally) k' x' ≡ enter_on (view r.tally) k x = rw (e, f) (enter_kept (view r.tally) k x reads.sound.few) in
-      at_call s d 0 (λ g. without_line (enter_on g k x)) reads q
-      (h (g.sound reads.sound) ∙ ap (λ (j : Judged). after_call 0 (without_line j) d) (g.right reads.sound ∙ kept))
+  module _ {e : Result ⊤ Refusal} {u : Tally} where
+    pub entered : (k x : ℕ) {k' x' : ℕ} → k' ≡ kept_container k → x' ≡ kept_x x → Answers (Sound t) t (enter_on (view t) k' x') (outcome_of e u)
+        → record { number = number_in e; line = 0; ledger = view u } ≡ entering k x (view t)
+    entered k x p q h = ap without_line (h.right sound ∙ rw (p, q) (enter_kept (view t) k x sound.few))
 
-  pub withdrawn_is : {k' : ℕ} (k : ℕ) → k' ≡ kept_container k → Answers (Sound r.tally) r.tally (withdraw_on (view r.tally) k') o
-      → (Sound o.tally → a ≡ after_call 0 (listed_as o.answer 0 o.tally) d) → a ≡ withdraw_sheet s k d
-  unfolding withdraw_sheet
-  withdrawn_is {k'} k e g h =
-      let t = r.tally in
-      let kept : withdraw_on (view t) k' ≡ withdraw_on (view t) k = rw e (withdraw_kept (view t) k (none_at_zero t reads.sound) (none_above t reads.sound k)) in
-      at_call s d 0 (λ g. without_line (withdraw_on g k)) reads q
-      (h (g.sound reads.sound) ∙ ap (λ (j : Judged). after_call 0 (without_line j) d) (g.right reads.sound ∙ kept))
-
-pub listed_is : (s d list : List ℕ) {r : Reading} → ReadAs (read_of s) r → {lines : ℕ} → r.answer ≡ Accepted lines → {o : Listing} {a : SheetAnswer} → Lists r.tally list o
-    → (Sound o.tally → a ≡ after_call 2 (listed_as o.answer o.line o.tally) d) → a ≡ enter_list_sheet s list d
-unfolding enter_list_sheet
-listed_is s d list reads q g h =
-    at_call s d 2 (λ g. list_on g list) reads q (h (g.sound reads.sound) ∙ ap (λ (l : Listed). after_call 2 l d) (g.right reads.sound))
+    pub withdrawn : (k : ℕ) {k' : ℕ} → k' ≡ kept_container k → Answers (Sound t) t (withdraw_on (view t) k') (outcome_of e u)
+        → record { number = number_in e; line = 0; ledger = view u } ≡ withdrawing k (view t)
+    withdrawn k p h = ap without_line (h.right sound ∙ rw p (withdraw_kept (view t) k none_at_zero (none_above k)))

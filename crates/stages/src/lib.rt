@@ -13,7 +13,8 @@ fn of_results(kind: u16) -> bool
     matches!(kind, 5 | 6 | 7)
 }
 
-// Whether a frame of this kind may stand next.
+// Whether a frame of this kind may stand next. `kind` is any number, as in the definition: an enum of the kinds would stand beside it with
+// a conversion of its own, and be no plainer than the numbers of the document.
 pub fn takes(stage: Stage, kind: u16) -> bool
     ensures { result ≡ may_stand kind stage }
 {

@@ -10,6 +10,8 @@ use crate::tables::{Row, TABLE_14G, TABLE_14H};
 
 mod tables;
 
+// The last row of Table 14H is written out in these two constants: read from the table it would be laid out once more.
+
 // The largest average of Table 14H.
 const LAST_AVERAGE: u32 = 501;
 
@@ -32,7 +34,8 @@ fn rows_below(rows: &[Row], average: u16) -> u16
 }
 
 // Table 14H: the tolerated difference for an average, that of the first row whose top is at least the average. As the tops rise, it
-// stands behind all rows with a top below the average, so that its place is their number.
+// stands behind all rows with a top below the average, so that its place is their number. A lookup in a table, as the next one is, and no
+// `From`: an average is any number, and may be outside.
 pub fn tolerated_difference(average: u32) -> Option<u32>
     ensures { result ≡ tolerated_difference average }
 {

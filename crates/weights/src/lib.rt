@@ -79,7 +79,7 @@ fn share(p: Pans) -> Result<u16, Refusal>
     ratio(tenths(p.component)?, tenths(p.remainder)?)
 }
 
-// The reading of one pan, from the frame's status: 0 steady, 1 unsteady, any other an overload.
+// The reading of one pan, from the frame's status: 0 steady, 1 unsteady, any other an overload. Here the number becomes the enum.
 #[tactic(auto, unfolding(rules::specs::Weights::reading_of))]
 fn reading(status: u32, w: f32) -> Reading
     ensures { result ≡ reading_of status w }
@@ -91,7 +91,8 @@ fn reading(status: u32, w: f32) -> Reading
     }
 }
 
-// X of a status and both pans. The weights are looked at when both readings are steady.
+// X of a status and both pans. The weights are looked at when both readings are steady. The status is the balance's number, as the sheet
+// and the C call give it, and any number is one: a narrower type would ask more of callers.
 #[tactic(auto, unfolding(rules::specs::Weights::reading_of, rules::specs::Weights::weighed_of))]
 pub fn weighed(status: u32, p: Pans) -> Result<u16, Refusal>
     ensures { result ≡ weighed_of status (to_bits binary32 p.component) (to_bits binary32 p.remainder) }

@@ -5,7 +5,7 @@ use Rattle.list_reader.proofs.Entering.{Reached}
 use Rattle.list_reader.proofs.take_lines.Given as goal
 
 abbrev pub invariant-loop-at : goal.invariant-loop-at
-invariant-loop-at l = Reached l.lot l.list l.initial.containers l.initial.results l.held l.containers l.results l.n l.at l.line
+invariant-loop-at l = Reached l.initial.t l.list l.t l.at l.line
 
 abbrev pub decreases-loop-at : goal.decreases-loop-at
 decreases-loop-at l = length l.list - l.at

@@ -4,8 +4,8 @@ use Prim.Native.Nat.{◌-◌, ◌≤◌}
 use lib.ListN.{length}
 use Rattle.lists.proofs.gelvorin_calls.Given as goal
 
-abbrev pub invariant-loop-from : goal.invariant-loop-from
-invariant-loop-from l = (l.from ≤ length l.list) × (l.at ≤ length l.buf) × (length l.buf ≡ length l.initial.buf)
+abbrev pub invariant-loop-call : goal.invariant-loop-call
+invariant-loop-call l = (l.at ≤ length l.buf) × (length l.buf ≡ length l.initial.buf)
 
-abbrev pub decreases-loop-from : goal.decreases-loop-from
-decreases-loop-from l = length l.list - l.from
+abbrev pub decreases-loop-call : goal.decreases-loop-call
+decreases-loop-call l = length l.buf - l.at

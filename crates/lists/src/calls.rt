@@ -1,0 +1,159 @@
+// The calls of a list, read one after the other. Numbers have their most significant byte first.
+ghost use Rattle.std.specs.Prelude.{◌≤◌, ◌<◌, IfSome};
+
+use rules::Pans;
+
+// The bytes of an open behind its first two.
+pub const OPENING: usize = 1024;
+
+// A text that is written of a tally.
+#[derive(Clone, Copy)]
+pub enum Text {
+    Report,
+    Sheet,
+    List,
+}
+
+// What is called on a tally: a join joins the tally itself or the other one into it, and `room` bytes are lent for a text.
+#[derive(Clone, Copy)]
+pub enum Call<'a> {
+    Open(&'a [u8; OPENING]),
+    Enter {
+        container: u16,
+        x: u16,
+    },
+    Withdraw {
+        container: u16,
+    },
+    Join {
+        itself: bool,
+    },
+    Weigh {
+        container: u16,
+        status: u16,
+        pans: Pans,
+    },
+    List {
+        lines: &'a [u8],
+    },
+    Write {
+        text: Text,
+        room: u16,
+    },
+}
+
+// A call and the tally, 0 or 1, that it is made on.
+#[derive(Clone, Copy)]
+pub struct Named<'a> {
+    pub on: usize,
+    pub call: Call<'a>,
+}
+
+impl Named<'_> {
+    // The bytes of its answer: a number, to a comma list also the two bytes of a line, to a text the two of its length and those lent.
+    pub fn answer_width(&self) -> usize
+        ensures { (1 ≤ result) × (result ≤ 65538) }
+    {
+        match self.call {
+            Call::List { .. } => 3,
+            Call::Write { room, .. } => 3 + usize::from(room),
+            _ => 1,
+        }
+    }
+}
+
+// The bytes of a list that are still to be read.
+#[derive(Clone, Copy)]
+pub struct Bytes<'a> {
+    rest: &'a [u8],
+}
+
+impl<'a> Bytes<'a> {
+    pub fn of(list: &'a [u8]) -> Bytes<'a> {
+        Bytes { rest: list }
+    }
+
+    fn take<const N: usize>(&mut self) -> Option<&'a [u8; N]> {
+        let (taken, rest) = self.rest.split_first_chunk::<N>()?;
+        self.rest = rest;
+        Some(taken)
+    }
+
+    fn number(&mut self) -> Option<u16> {
+        self.take().map(|bytes| u16::from_be_bytes(*bytes))
+    }
+
+    fn wide_number(&mut self) -> Option<u32> {
+        self.take().map(|bytes| u32::from_be_bytes(*bytes))
+    }
+
+    // As many bytes as the number before them says.
+    fn counted(&mut self) -> Option<&'a [u8]> {
+        let length = self.number()?;
+        let (taken, rest) = self.rest.split_at_checked(usize::from(length))?;
+        self.rest = rest;
+        Some(taken)
+    }
+
+    fn enter(&mut self) -> Option<Call<'a>> {
+        Some(Call::Enter {
+            container: self.number()?,
+            x: self.number()?,
+        })
+    }
+
+    fn weigh(&mut self) -> Option<Call<'a>> {
+        Some(Call::Weigh {
+            container: self.number()?,
+            status: self.number()?,
+            pans: Pans {
+                component: weights::float(self.wide_number()?),
+                remainder: weights::float(self.wide_number()?),
+            },
+        })
+    }
+
+    fn write(&mut self, text: Text) -> Option<Call<'a>> {
+        Some(Call::Write {
+            text,
+            room: self.number()?,
+        })
+    }
+
+    // A call by its kind, but for a join.
+    fn of_kind(&mut self, kind: u8) -> Option<Call<'a>> {
+        match kind {
+            1 => Some(Call::Open(self.take()?)),
+            2 => self.enter(),
+            3 => Some(Call::Withdraw {
+                container: self.number()?,
+            }),
+            5 => self.weigh(),
+            6 => self.write(Text::Report),
+            7 => self.write(Text::Sheet),
+            8 => Some(Call::List {
+                lines: self.counted()?,
+            }),
+            9 => self.write(Text::List),
+            _ => None,
+        }
+    }
+
+    // The next call: its kind, the name of its tallies, and what stands behind the two. None where the list ends: at its last byte, or at
+    // bytes that are no whole call.
+    pub fn call(&mut self) -> Option<Named<'a>>
+        ensures { IfSome result (λ named. named.on < 2) }
+    {
+        let [kind, name] = *self.take::<2>()?;
+        let (on, call) = match (kind, name) {
+            (4, 0) => (0, Call::Join { itself: false }),
+            (4, 1) => (1, Call::Join { itself: false }),
+            (4, 2) => (0, Call::Join { itself: true }),
+            (4, 3) => (1, Call::Join { itself: true }),
+            (_, 0) => (0, self.of_kind(kind)?),
+            (_, 1) => (1, self.of_kind(kind)?),
+            _ => return None,
+        };
+        Some(Named { on, call })
+    }
+}
