@@ -1,13 +1,17 @@
 -- Where the last line ends that has its end byte. Assumes nothing.
 use mathlib.Core.Path.{◌≡◌, refl, sym, ap, ◌∙◌}
-use mathlib.Core.Bool.{true, false}
+use mathlib.Core.Bool.{Bool, true, false, not, true≢false}
 use mathlib.Core.List.{List, [], ◌∷◌}
-use Prim.Native.Nat.{ℕ, zero, suc, ◌-◌, ◌≤◌, ◌<◌}
+use Prim.Native.Nat.{ℕ, zero, suc, ◌+◌, ◌-◌, ◌≤◌, ◌<◌}
 use native.Mathlib.Omega.{arith}
-use native.Mathlib.Decide.{ℕ_discrete}
+use native.Mathlib.Decide.{ℕ_discrete, dec_lt}
 use lib.Dec.{eqb}
-use lib.ListN.{length, get_or}
+use lib.ListN.{length, get_or, length-reverse}
+use Rattle.std.specs.Prelude.{reverse}
 use borrow.Author.Tests.{eq-eqb, ne_eqb, lt-ltb, le-ltb}
+use Rattle.std.specs.List.{suffix_len}
+use Rattle.std.proofs.lemmas.List.{get_or-reverse}
+use Rattle.std.proofs.lemmas.List.Sums.{prefix_len_passes, prefix_len_stops}
 use Rattle.rules.specs.Choice.{pick}
 use Rattle.rules.specs.ListReading.{first, has}
 use Rattle.rules.specs.Printing.{ended_bytes}
@@ -52,18 +56,34 @@ ended_at (x ∷ xs) zero h e k = rw (has_some (x ∷ xs) 0 h e) (ap suc (ended_n
 ended_at (x ∷ xs) (suc n) h e k =
     rw (has_some (x ∷ xs) (suc n) h e) (ap suc (ended_at xs n (omega arith) e (λ i a b. k (suc i) (omega arith) (omega arith))))
 
--- ---- a look back from the end of the bytes, which has come to place n
-pub one_less : (q : List ℕ) (n m : ℕ) → m ≡ n - 1 → 1 ≤ n → NoneFrom 10 q n → (get_or q m 0 ≡ 10 → ⊥) → NoneFrom 10 q m
-one_less q n m e h k z i a b = by (ℕ_discrete i m)
+-- ---- a look back from the end of the bytes: n of them are no end byte, up to the first that is one
+is_end : {x : ℕ} → not (eqb x 10) ≡ false → x ≡ 10
+is_end {x} e = by (ℕ_discrete x 10)
   where
-    by : Dec (i ≡ m) → get_or q i 0 ≡ 10 → ⊥
-    by (yes p) f = z (ap (λ (j : ℕ). get_or q j 0) (sym p) ∙ f)
-    by (no p) f = k i (omega arith) b f
+    by : Dec (x ≡ 10) → x ≡ 10
+    by (yes p) = p
+    by (no p) = absurd (true≢false (sym (ap not (ne_eqb x 10 p)) ∙ e))
 
-pub found : (q : List ℕ) (n m : ℕ) → m ≡ n - 1 → 1 ≤ n → n ≤ length q → NoneFrom 10 q n → get_or q m 0 ≡ 10 → n ≡ ended_bytes q
-found q n m e h l k z =
-    let next : suc m ≡ n = omega arith in
-    sym (ended_at q m (omega arith) z (λ i a b. k i (omega arith) b) ∙ next)
+pub look_back : (q : List ℕ) (n : ℕ) → n ≡ suffix_len (λ x. not (eqb x 10)) q → length q - n ≡ ended_bytes q
+look_back q n e = by (dec_lt n (length q))
+  where
+    p : ℕ → Bool
+    p x = not (eqb x 10)
 
-pub not_found : (q : List ℕ) (n : ℕ) → n ≤ 0 → NoneFrom 10 q n → 0 ≡ ended_bytes q
-not_found q n h k = sym (ended_none q (λ i a b. k i (omega arith) b))
+    -- what stands behind the place m passed the test
+    behind : (m : ℕ) → length q ≤ m + n → NoneFrom 10 q m
+    behind m h i a b z =
+        let k = length q - 1 - i in
+        let back : length q - 1 - k ≡ i = omega arith in
+        let passes : p (get_or (reverse q) k 0) ≡ true = prefix_len_passes p (reverse q) k 0 (omega (arith, e)) in
+        let here : get_or (reverse q) k 0 ≡ 10 = get_or-reverse q k 0 (omega arith) ∙ ap (λ (j : ℕ). get_or q j 0) back ∙ z in
+        absurd (true≢false (sym passes ∙ ap p here))
+
+    by : Dec (n < length q) → length q - n ≡ ended_bytes q
+    by (yes h) =
+        let m = length q - 1 - n in
+        let stops : p (get_or (reverse q) n 0) ≡ false = ap (λ (j : ℕ). p (get_or (reverse q) j 0)) e ∙ prefix_len_stops p (reverse q) 0 (omega (arith, e, length-reverse q)) in
+        let there : p (get_or q m 0) ≡ false = ap p (sym (get_or-reverse q n 0 h)) ∙ stops in
+        let next : suc m ≡ length q - n = omega arith in
+        sym (ended_at q m (omega arith) (is_end there) (behind (suc m) (omega arith)) ∙ next)
+    by (no h) = let none : length q - n ≡ 0 = omega arith in none ∙ sym (ended_none q (behind 0 (omega arith)))

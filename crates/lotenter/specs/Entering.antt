@@ -1,15 +1,16 @@
 -- What lotenter enters of what it read, and what it prints for that.
 use Rattle.std.specs.Prelude.{◌≡◌, Bool, true, ◌||◌, not, List, ℕ, ◌≤◌, eqb, ltb, length, take}
 use Rattle.rules.specs.Choice.{pick}
+use Rattle.rules.specs.Limits.{list_places}
 use Rattle.rules.specs.Text.{text}
 use Rattle.rules.specs.Reading.{SheetOutcome, accepted, refused, read_of}
 use Rattle.rules.specs.ListReading.{list_on}
 use Rattle.rules.specs.Printing.{entered, ended_lines}
 use Rattle.buffers.specs.Counts.{IsPrefixLen}
 
--- of a buffer in which n bytes of a list were read, these are entered: all of them, or, where they fill it, the lines that end among them
-abbrev pub entered_part : List ℕ → ℕ → List ℕ
-entered_part buffer n = pick (ltb n (length buffer)) (take n buffer) (ended_lines buffer)
+-- of the bytes that were read of a list these are entered: all of them, or, where they fill their places, the lines that end among them
+abbrev pub entered_part : List ℕ → List ℕ
+entered_part read = pick (ltb (length read) list_places) read (ended_lines read)
 
 -- how lotenter is used
 abbrev pub usage_line : List ℕ

@@ -6,7 +6,7 @@ ghost use Rattle.std.specs.Prelude.{◌≡◌, List, ℕ, ◌≤◌, length, tak
 ghost use Rattle.rules.specs.Limits.{list_places};
 ghost use Rattle.rules.specs.Printing.{ended_bytes, enter_prints};
 ghost use Rattle.buffers.specs.Counts.{IsPrefixLen};
-ghost use Rattle.program_input.specs.Input.{BeginsWith};
+ghost use Rattle.program_input.specs.Input.{IsSheetOf};
 ghost use Rattle.lotenter.specs.Entering.{entered_part, ShowsEntered};
 
 use program_input::SHEET;
@@ -24,27 +24,18 @@ const TEXT: usize = 4096;
 fn ended_bytes(list: &[u8]) -> usize
     ensures { (result ≡ ended_bytes list.now) × (result ≤ length list.now) }
 {
-    let mut end = list.len();
-    while 0 < end {
-        let last = end - 1;
-        if list[last] == b'\n' {
-            return end;
-        }
-        end = last;
-    }
-    0
+    let behind = list.iter().rev().take_while(|byte| **byte != b'\n').count();
+    list.len() - behind
 }
 
-// What is entered of a list of which the first `read` bytes stand in a buffer. The buffer has as many places as bytes of a list are read.
-fn lines_of(buffer: &[u8; LIST], read: usize) -> &[u8]
-    ensures { (result.now ≡ entered_part buffer.now read) × (list_places ≡ length buffer.now) }
+// What is entered of a list of which these bytes were read.
+fn lines_of(read: &[u8]) -> &[u8]
+    ensures { result.now ≡ entered_part read.now }
 {
-    let all: &[u8] = buffer;
-    if read < LIST {
-        return &all[..read];
+    if read.len() < LIST {
+        return read;
     }
-    let end = ended_bytes(all);
-    &all[..end]
+    &read[..ended_bytes(read)]
 }
 
 // The text for a sheet and these lines of a list. `whole`: they are all of it.
@@ -61,21 +52,12 @@ fn enter_lines(sheet: &[u8], lines: &[u8], whole: bool, text: &mut [u8]) -> usiz
     }
 }
 
-// The text to every sheet and every list that begin with the bytes that were read of them, the first `m` and the first `n` of the
-// buffers, and its length.
-fn answer(
-    sheet: &[u8; SHEET],
-    m: usize,
-    list: &[u8; LIST],
-    n: usize,
-    text: &mut [u8; TEXT],
-) -> usize
-    ensures by_index { (s l : List ℕ) → BeginsWith s sheet.now m → BeginsWith l list.now n → take result text.new ≡ enter_prints s l }
+// The text to every sheet and every list of which these bytes were read: as many of the first as there are places for, or all.
+fn answer(sheet: &[u8], list: &[u8], text: &mut [u8; TEXT]) -> usize
+    ensures by_index { (s l : List ℕ) → IsSheetOf s sheet.now → list.now ≡ take list_places l → take result text.new ≡ enter_prints s l }
     ensures prefix_len { IsPrefixLen result text.new }
 {
-    let s = program_input::sheet_of(sheet, m);
-    let lines = lines_of(list, n);
-    enter_lines(s, lines, n < LIST, text)
+    enter_lines(sheet, lines_of(list), list.len() < LIST, text)
 }
 
 // The bytes of the file that the word with this place names, as many as fit; none where it is not named or cannot be read.
@@ -93,6 +75,6 @@ fn main(rt: HostRuntime) -> io::Result<()> {
     let mut text: [u8; TEXT] = buffers::zeroed();
     let m = read_file(&rt, 1, &mut sheet);
     let n = read_file(&rt, 2, &mut list);
-    let size = answer(&sheet, m, &list, n, &mut text);
+    let size = answer(program_input::sheet_of(&sheet, m), &list[..n], &mut text);
     rt.write_all(&text[..size])
 }

@@ -1,10 +1,9 @@
 // lotmixing TOLERATED X X ..: prints `mixable` or `not mixable`, for component lots with the results X and a tolerated R.
 #![tactic(auto)]
 
-ghost use Rattle.std.specs.Prelude.{◌≡◌, List, ℕ, ◌-◌, take};
+ghost use Rattle.std.specs.Prelude.{◌≡◌, List, ℕ, ◌-◌};
 ghost use Rattle.buffers.specs.Counts.{IsPrefixLen};
 ghost use Rattle.decimal.specs.Laying.{Laid};
-ghost use Rattle.program_words.specs.Given.{GivenAs};
 ghost use Rattle.program_words.specs.Saying.{test_said};
 ghost use Rattle.program_lines.specs.Printing.{said_to_mixing, mixing_prints};
 ghost use Rattle.lotmixing.specs.Listing.{KeptOf, Adds, OneMore, ReadOf, said_to_numbers};
@@ -25,14 +24,6 @@ fn with_word(numbers: Option<Numbers>, word: &[u8]) -> Option<Numbers>
     let numbers = numbers?;
     let x = decimal_words::number(word)?;
     Some(numbers.with(x))
-}
-
-// The same where the word stands in the first `n` bytes of a buffer.
-fn with_given(numbers: Option<Numbers>, buffer: &[u8; WORD], n: usize) -> Option<Numbers>
-    ensures adds { Adds (take n buffer.now) numbers result }
-    ensures by_index { (word : List ℕ) → GivenAs word buffer.now n → Adds word numbers result }
-{
-    with_word(numbers, program_words::word(buffer, n))
 }
 
 // What is said to numbers: the first is the tolerated R.
@@ -73,7 +64,7 @@ fn with_argument(rt: &impl Env, numbers: Option<Numbers>, i: usize) -> Option<Nu
 {
     let mut buffer = buffers::zeroed::<WORD>();
     let n = buffers::word(rt, i, &mut buffer);
-    with_given(numbers, &buffer, n)
+    with_word(numbers, program_words::word(&buffer, n))
 }
 
 // All arguments, of which there are `arguments` with the program's own name.

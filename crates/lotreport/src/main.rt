@@ -5,7 +5,7 @@ ghost use Rattle.std.specs.Prelude.{List, ℕ};
 ghost use Rattle.rules.specs.Printing.{printed_for};
 ghost use Rattle.buffers.specs.Counts.{IsPrefixLen};
 ghost use Rattle.decimal.specs.Laying.{Laid};
-ghost use Rattle.program_input.specs.Input.{BeginsWith};
+ghost use Rattle.program_input.specs.Input.{IsSheetOf};
 
 use program_input::SHEET;
 use std::io;
@@ -13,18 +13,18 @@ use std::io;
 // Places for the text: none that is printed is longer.
 const TEXT: usize = 256;
 
-// The text to every input that begins with the first `read` bytes of the sheet, and its length.
-fn answer(sheet: &[u8; SHEET], read: usize, text: &mut [u8; TEXT]) -> usize
-    ensures by_index { (input : List ℕ) → BeginsWith input sheet.now read → Laid (printed_for input) text.old text.new result }
+// The text to every input of which this is the sheet, and its length.
+fn answer(sheet: &[u8], text: &mut [u8; TEXT]) -> usize
+    ensures by_index { (input : List ℕ) → IsSheetOf input sheet.now → Laid (printed_for input) text.old text.new result }
     ensures prefix_len { IsPrefixLen result text.new }
 {
-    judge::judge(program_input::sheet_of(sheet, read), text).unwrap_or(0)
+    judge::judge(sheet, text).unwrap_or(0)
 }
 
 fn main(rt: HostRuntime) -> io::Result<()> {
     let mut sheet = [0u8; SHEET];
     let mut text = [0u8; TEXT];
     let read = buffers::read_full(&mut rt.stdin(), &mut sheet)?;
-    let size = answer(&sheet, read, &mut text);
+    let size = answer(program_input::sheet_of(&sheet, read), &mut text);
     rt.write_all(&text[..size])
 }

@@ -1,10 +1,9 @@
 // lotsampling CONTAINERS KILOGRAMS: prints the number of primary samples for so many containers of so many whole kg each.
 #![tactic(auto)]
 
-ghost use Rattle.std.specs.Prelude.{◌≡◌, List, ℕ};
+ghost use Rattle.std.specs.Prelude.{◌≡◌};
 ghost use Rattle.buffers.specs.Counts.{IsPrefixLen};
 ghost use Rattle.decimal.specs.Laying.{Laid};
-ghost use Rattle.program_words.specs.Given.{GivenAs};
 ghost use Rattle.program_words.specs.Saying.{number_said, said_to_two};
 ghost use Rattle.program_lines.specs.Printing.{said_to_sampling, sampling_prints};
 
@@ -21,21 +20,13 @@ fn said_to(words: Option<(u32, u32)>) -> Result<u32, Unsaid>
     Ok(sampling::primary_samples(containers, kilograms)?)
 }
 
-// The line to the words, which stand in the first `k` and `c` bytes of their buffers, and its length.
-fn answer(
-    arguments: usize,
-    containers: &[u8; WORD],
-    k: usize,
-    kilograms: &[u8; WORD],
-    c: usize,
-    line: &mut [u8; LINE],
-) -> usize
-    ensures by_index { (v w : List ℕ) → GivenAs v containers.now k → GivenAs w kilograms.now c → Laid (sampling_prints arguments v w) line.old line.new result }
+// The line to the words, and its length.
+fn answer(arguments: usize, containers: &[u8], kilograms: &[u8], line: &mut [u8; LINE]) -> usize
+    ensures text { Laid (sampling_prints arguments containers.now kilograms.now) line.old line.new result }
     ensures prefix_len { IsPrefixLen result line.new }
 {
-    let v = program_words::word(containers, k);
-    let w = program_words::word(kilograms, c);
-    let said = said_to(program_words::two_numbers(arguments == 3, v, w));
+    let words = program_words::two_numbers(arguments == 3, containers, kilograms);
+    let said = said_to(words);
     program_lines::number_line(said, b"usage: lotsampling CONTAINERS KILOGRAMS", line)
 }
 
@@ -47,10 +38,8 @@ fn main(rt: HostRuntime) -> io::Result<()> {
     let c = buffers::word(&rt, 2, &mut kilograms);
     let n = answer(
         buffers::word_count(&rt),
-        &containers,
-        k,
-        &kilograms,
-        c,
+        program_words::word(&containers, k),
+        program_words::word(&kilograms, c),
         &mut line,
     );
     rt.write_all(&line[..n])

@@ -1,10 +1,9 @@
 // lottolerance label LABELLED FOUND, lottolerance pair FIRST SECOND: prints `within` or `out`, by the tables 14G and 14H.
 #![tactic(auto)]
 
-ghost use Rattle.std.specs.Prelude.{◌≡◌, List, ℕ};
+ghost use Rattle.std.specs.Prelude.{◌≡◌};
 ghost use Rattle.buffers.specs.Counts.{IsPrefixLen};
 ghost use Rattle.decimal.specs.Laying.{Laid};
-ghost use Rattle.program_words.specs.Given.{GivenAs};
 ghost use Rattle.program_words.specs.Saying.{said_to_two, test_said};
 ghost use Rattle.program_lines.specs.Printing.{said_to_kind, tolerance_prints};
 
@@ -25,24 +24,19 @@ fn said_to(kind: &[u8], words: Option<(u32, u32)>) -> Result<bool, Unsaid>
     }
 }
 
-// The line to the words, which stand in the first `k`, `a` and `b` bytes of their buffers, and its length.
+// The line to the words, and its length.
 fn answer(
     arguments: usize,
-    kind: &[u8; WORD],
-    k: usize,
-    first: &[u8; WORD],
-    a: usize,
-    second: &[u8; WORD],
-    b: usize,
+    kind: &[u8],
+    first: &[u8],
+    second: &[u8],
     line: &mut [u8; LINE],
 ) -> usize
-    ensures by_index { (u v w : List ℕ) → GivenAs u kind.now k → GivenAs v first.now a → GivenAs w second.now b → Laid (tolerance_prints arguments u v w) line.old line.new result }
+    ensures text { Laid (tolerance_prints arguments kind.now first.now second.now) line.old line.new result }
     ensures prefix_len { IsPrefixLen result line.new }
 {
-    let u = program_words::word(kind, k);
-    let v = program_words::word(first, a);
-    let w = program_words::word(second, b);
-    let said = said_to(u, program_words::two_numbers(arguments == 4, v, w));
+    let words = program_words::two_numbers(arguments == 4, first, second);
+    let said = said_to(kind, words);
     program_lines::verdict_line(
         said,
         b"usage: lottolerance label LABELLED FOUND, or lottolerance pair FIRST SECOND",
@@ -62,12 +56,9 @@ fn main(rt: HostRuntime) -> io::Result<()> {
     let b = buffers::word(&rt, 3, &mut second);
     let n = answer(
         buffers::word_count(&rt),
-        &kind,
-        k,
-        &first,
-        a,
-        &second,
-        b,
+        program_words::word(&kind, k),
+        program_words::word(&first, a),
+        program_words::word(&second, b),
         &mut line,
     );
     rt.write_all(&line[..n])

@@ -3,15 +3,17 @@
 
 ghost use Rattle.std.specs.Prelude.{◌≡◌, List, ℕ};
 ghost use Rattle.rules.specs.Reading.{read_of};
-ghost use Rattle.program_input.specs.Input.{BeginsWith};
+ghost use Rattle.program_input.specs.Input.{BeginsWith, IsSheetOf};
 
 // Places for a sheet: what an input has behind them makes no difference to what it is read as.
 pub const SHEET: usize = 4096;
 
-// The first `read` bytes of a buffer: they say what every input says that begins with them.
-#[tactic(auto, using(crate::proofs::Beginning::read_same))]
+// The first `read` bytes of a buffer: they are the sheet of every input that begins with them, and say what it says. An array, since its
+// length says how many bytes were asked for: where fewer came, they are all of the input.
+#[tactic(auto, using(crate::proofs::Beginning::sheet_read, crate::proofs::Beginning::read_same))]
 pub fn sheet_of(buffer: &[u8; SHEET], read: usize) -> &[u8]
-    ensures { (input : List ℕ) → BeginsWith input buffer.now read → read_of result.now ≡ read_of input }
+    ensures sheet { (input : List ℕ) → BeginsWith input buffer.now read → IsSheetOf input result.now }
+    ensures says { (input : List ℕ) → BeginsWith input buffer.now read → read_of result.now ≡ read_of input }
 {
     &buffer[..read.min(SHEET)]
 }

@@ -28,7 +28,8 @@ impl From<Refusal> for Unsaid {
 // Places for a word: the longest that Linux hands to a program, and the byte that ends it.
 pub const WORD: usize = 131072;
 
-// The word that stands in the first `n` bytes of a buffer. There are places for every word, so it is the one that was given.
+// The word that stands in the first `n` bytes of a buffer, as it was given: an array, since its length says that there are places for
+// every word.
 pub fn word(buffer: &[u8; WORD], n: usize) -> &[u8]
     ensures result_value { result.now ≡ take n buffer.now }
     ensures by_index { (given : List ℕ) → GivenAs given buffer.now n → result.now ≡ given }

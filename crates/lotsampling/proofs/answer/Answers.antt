@@ -6,9 +6,9 @@ use Rattle.program_lines.specs.Printing.{sampling_prints}
 use Rattle.program_lines.proofs.LineLaws.{line_answers}
 use Rattle.lotsampling.proofs.answer.Goals as goal
 
-pub returns-clause-by_index : goal.returns-clause-by_index
+pub returns-clause-text : goal.returns-clause-text
 unfolding sampling_prints
-returns-clause-by_index c =
+returns-clause-text c =
     let line = line_answers (text "usage: lotsampling CONTAINERS KILOGRAMS") decimal (number_said c.said_to-said.result) c.number_line.ensures (search rules) (omega arith)
     (λ v. omega (arith, length_decimal v)) in
-    λ v w g h. line.0 _ (rw (c.two_numbers.ensures, c.word-v.ensures.by_index v g, c.word-w.ensures.by_index w h) at c.said_to-said.ensures)
+    line.0 _ (rw c.two_numbers-words.ensures at c.said_to-said.ensures)

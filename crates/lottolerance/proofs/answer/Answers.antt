@@ -6,10 +6,9 @@ use Rattle.program_lines.specs.Printing.{tolerance_prints}
 use Rattle.program_lines.proofs.LineLaws.{yes_or_no_most, line_answers}
 use Rattle.lottolerance.proofs.answer.Goals as goal
 
-pub returns-clause-by_index : goal.returns-clause-by_index
+pub returns-clause-text : goal.returns-clause-text
 unfolding tolerance_prints
-returns-clause-by_index c =
+returns-clause-text c =
     let line = line_answers (text "usage: lottolerance label LABELLED FOUND, or lottolerance pair FIRST SECOND") (yes_or_no (text "within") (text "out"))
     (test_said c.said_to-said.result) c.verdict_line.ensures (search rules) (omega arith) (yes_or_no_most (text "within") (text "out") (omega arith) (omega arith)) in
-    λ u v w f g h. line.0 _
-    (rw (c.word-u.ensures.by_index u f, c.two_numbers.ensures, c.word-v.ensures.by_index v g, c.word-w.ensures.by_index w h) at c.said_to-said.ensures)
+    line.0 _ (rw c.two_numbers-words.ensures at c.said_to-said.ensures)
