@@ -1,6 +1,5 @@
 // What is printed for a sheet and a comma list, where that is no call of a crate.
 use rules::Refusal;
-use sheet::Answer;
 
 // The bytes that lotreport reads.
 const READ: usize = 4096;
@@ -10,14 +9,9 @@ pub fn front_judged(sheet: &[u8], buf: &mut [u8]) -> Result<usize, Refusal> {
     judge::judge(&sheet[..sheet.len().min(READ)], buf)
 }
 
-// The list of a sheet's results, or the line of its first fault: what lotlist prints. Its lines stand there too, as no crate can call a
-// program, and one for these alone would be no plainer.
+// The list of a sheet's results, or the line of its first fault: what lotlist prints.
 pub fn written(sheet: &[u8], _list: &[u8], buf: &mut [u8]) -> Result<usize, Refusal> {
-    let reading = sheet::read(sheet);
-    match reading.answer {
-        Answer::Refused(e, line) => refusal_lines::print_refused(buf, e, line),
-        Answer::Accepted(_) => list_writer::write_list(reading.tally, buf),
-    }
+    sheet_list::print(sheet, buf)
 }
 
 // The sheet with a list entered, or the line of the first fault: what lotenter prints.

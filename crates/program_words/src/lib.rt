@@ -10,7 +10,7 @@ ghost use Rattle.program_words.specs.declared.Unsaid.TheVariants.{Refused};
 
 use rules::Refusal;
 
-// Why a program says no value. Usage: a word is no plain decimal number, or there are too few or too many words.
+// Why a program says no value: the error of its `Result`. Usage: a word is no plain decimal number, or there are too few or too many words.
 #[derive(Clone, Copy, Debug, PartialEq, Eq)]
 pub enum Unsaid {
     Usage,

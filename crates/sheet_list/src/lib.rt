@@ -7,7 +7,6 @@ ghost use Rattle.rules.specs.Text.{laid_in};
 ghost use Rattle.rules.specs.Printing.{listed_for};
 
 use rules::Refusal;
-use sheet::Answer;
 
 // The list of a sheet's results, or the line of its first fault, and its length. None is longer than 1,024 bytes: a list has at most 60
 // lines of 13 bytes.
@@ -15,9 +14,8 @@ pub fn print(sheet: &[u8], buf: &mut [u8]) -> Result<usize, Refusal>
     ensures text { text_answer result buf.new ≡ laid_in (listed_for sheet.now) buf.old }
     ensures most { length (listed_for sheet.now) ≤ 1024 }
 {
-    let reading = sheet::read(sheet);
-    match reading.answer {
-        Answer::Refused(e, line) => refusal_lines::print_refused(buf, e, line),
-        Answer::Accepted(_) => list_writer::write_list(reading.tally, buf),
+    match sheet::read(sheet) {
+        Err(fault) => refusal_lines::print_refused(buf, fault.refusal, fault.place.line()),
+        Ok(reading) => list_writer::write_list(reading.tally, buf),
     }
 }
