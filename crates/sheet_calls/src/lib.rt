@@ -1,5 +1,5 @@
 // Calls on a sheet: it is read, a call is made on its tally, and the sheet after the call is written. A refused call leaves the buffer
-// as it was.
+// as it was. The calls take sheet, list and buffer one by one, as the C interface lends them: the host library hands its own on.
 #![tactic(auto)]
 
 ghost use Rattle.std.specs.Prelude.{◌≡◌};
