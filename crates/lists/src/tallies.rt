@@ -2,16 +2,25 @@
 ghost use Rattle.std.specs.Prelude.{◌≤◌, ◌<◌, length};
 
 use crate::answers::Answer;
-use crate::calls::{Call, Named, Text};
+use crate::calls::{Call, Named, OPENING, Text};
 use crate::opening::Opening;
 use rules::Refusal;
 use tally::Tally;
 
-fn written(t: Tally, text: Text, lent: &mut [u8]) -> Result<usize, Refusal> {
+// The next two are not inlined: what an open or a text needs on the stack would be made for every call.
+
+#[inline(never)]
+fn opened(t: &mut Tally, bytes: &[u8; OPENING]) -> Result<(), Refusal> {
+    let opening = Opening { bytes };
+    t.open(opening.lot(), opening.card())
+}
+
+#[inline(never)]
+fn written(t: &Tally, text: Text, lent: &mut [u8]) -> Result<usize, Refusal> {
     match text {
-        Text::Report => report::report(t, lent),
-        Text::Sheet => writer::write(t, lent),
-        Text::List => list_writer::write_list(t, lent),
+        Text::Report => report::report(*t, lent),
+        Text::Sheet => writer::write(*t, lent),
+        Text::List => list_writer::write_list(*t, lent),
     }
 }
 
@@ -29,10 +38,7 @@ fn made(tallies: &mut [Tally; 2], named: Named, lent: &mut [u8]) -> Answer
 {
     let t = &mut tallies[named.on];
     match named.call {
-        Call::Open(bytes) => {
-            let opening = Opening { bytes };
-            Answer::from(t.open(opening.lot(), opening.card()))
-        }
+        Call::Open(bytes) => Answer::from(opened(t, bytes)),
         Call::Enter { container, x } => Answer::from(t.enter(container, x)),
         Call::Withdraw { container } => Answer::from(t.withdraw(container)),
         Call::Join { itself } => Answer::from(joined(tallies, named.on, itself)),
@@ -42,7 +48,7 @@ fn made(tallies: &mut [Tally; 2], named: Named, lent: &mut [u8]) -> Answer
             pans,
         } => Answer::from(t.weigh(container, status, pans)),
         Call::List { lines } => Answer::from(list_reader::read_list(t, lines)),
-        Call::Write { text, .. } => Answer::from(written(*t, text, lent)),
+        Call::Write { text, .. } => Answer::from(written(t, text, lent)),
     }
 }
 
