@@ -60,7 +60,7 @@ pub extern "C" fn gelvorin_tenths(bits: u32) -> u64
     codes::answer_code(weights::tenths(weights::float(bits)))
 }
 
-// X of a sample that was weighed: the balance's status, and the float bits of component and remainder.
+// X of a sample that was weighed: the balance's status, and the float bits of component and remainder, as numbers, since C calls it.
 #[unsafe(no_mangle)]
 #[tactic(auto, using(codes::proofs::CodeLaws::code_laws, rules::proofs::WeightLaws::weighed_back))]
 pub extern "C" fn gelvorin_weighed(status: u32, component: u32, remainder: u32) -> u64

@@ -18,7 +18,7 @@ fn enter_step(stage: Stage, t: &mut Tally, c: u16, x: u16) -> Result<Stage, Refu
     Ok(Stage::Result)
 }
 
-// A weighed result: a weigh.
+// A weighed result: a weigh. The status is the number that the frame has; the weighing makes a reading of it.
 fn weigh_step(
     stage: Stage,
     t: &mut Tally,
