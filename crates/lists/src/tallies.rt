@@ -1,8 +1,8 @@
 // The calls on the two tallies.
-ghost use Rattle.std.specs.Prelude.{◌≤◌, ◌<◌, length};
+ghost use Rattle.std.specs.Prelude.{◌<◌};
 
 use crate::answers::Answer;
-use crate::calls::{Call, Named, Text};
+use crate::calls::{Call, Named, OPENING, Text};
 use crate::opening::Opening;
 use rules::Refusal;
 use tally::{Outcome, Tally};
@@ -23,6 +23,15 @@ fn listed(t: &mut Tally, lines: &[u8]) -> Answer {
     }
 }
 
+// The next two are not inlined: what an open or a text needs on the stack would be made for every call.
+
+#[inline(never)]
+fn opened(t: &mut Tally, bytes: &[u8; OPENING]) -> Result<(), Refusal> {
+    let opening = Opening { bytes };
+    left(t, tally::open(*t, opening.lot(), opening.card()))
+}
+
+#[inline(never)]
 fn written(t: Tally, text: Text, lent: &mut [u8]) -> Result<usize, Refusal> {
     match text {
         Text::Report => report::report(t, lent),
@@ -46,10 +55,7 @@ fn made(tallies: &mut [Tally; 2], named: Named, lent: &mut [u8]) -> Answer
 {
     let t = &mut tallies[named.on];
     match named.call {
-        Call::Open(bytes) => {
-            let opening = Opening { bytes };
-            Answer::from(left(t, tally::open(*t, opening.lot(), opening.card())))
-        }
+        Call::Open(bytes) => Answer::from(opened(t, bytes)),
         Call::Enter { container, x } => Answer::from(left(t, tally::enter(*t, container, x))),
         Call::Withdraw { container } => Answer::from(left(t, tally::withdraw(*t, container))),
         Call::Join { itself } => Answer::from(joined(tallies, named.on, itself)),
