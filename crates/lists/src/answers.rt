@@ -2,7 +2,7 @@
 use rules::{Fault, Refusal};
 
 // 0 or the refusal's number; and what the two bytes behind it say: a text's length, or the line of a comma list that is refused, else 0.
-// Numbers, as they are laid down for the reader in C.
+// The numbers that the bytes spell, and no `Result`: it would be taken apart for them where they are laid.
 #[derive(Clone, Copy)]
 pub struct Answer {
     pub number: u32,

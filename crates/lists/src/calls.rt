@@ -120,7 +120,7 @@ impl<'a> Bytes<'a> {
         })
     }
 
-    // A call by its kind, but for a join. Here the byte of the list becomes a value.
+    // A call by its kind, but for a join. The list's own byte becomes the enum here.
     fn of_kind(&mut self, kind: u8) -> Option<Call<'a>> {
         match kind {
             1 => Some(Call::Open(self.take()?)),

@@ -1,5 +1,5 @@
 // The lot and the card of an open.
-ghost use Rattle.std.specs.Prelude.{◌+◌, ◌≤◌, ◌<◌};
+ghost use Rattle.std.specs.Prelude.{◌≤◌};
 
 use crate::calls::OPENING;
 use rules::{CRITICALS, Card, Head, Lot, MOST_ROWS};
