@@ -7,6 +7,7 @@ use rules::MOST_MIXED;
 // How many are kept: the tolerated R, and one result more than may be mixed.
 pub const KEPT: usize = MOST_MIXED + 2;
 
+// Places for all that are kept, since a program takes no memory from the system.
 #[derive(Clone, Copy)]
 pub struct Numbers {
     values: [u32; KEPT],

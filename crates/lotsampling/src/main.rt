@@ -30,6 +30,7 @@ fn answer(arguments: usize, containers: &[u8], kilograms: &[u8], line: &mut [u8;
     program_lines::number_line(said, b"usage: lotsampling CONTAINERS KILOGRAMS", line)
 }
 
+// That of lottolerance reads another number of words, each into a buffer of its own.
 fn main(rt: HostRuntime) -> io::Result<()> {
     let mut containers = buffers::zeroed::<WORD>();
     let mut kilograms = buffers::zeroed::<WORD>();

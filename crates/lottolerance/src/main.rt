@@ -46,6 +46,7 @@ fn answer(
     )
 }
 
+// That of lotsampling reads another number of words, each into a buffer of its own.
 fn main(rt: HostRuntime) -> io::Result<()> {
     let mut kind = buffers::zeroed::<WORD>();
     let mut first = buffers::zeroed::<WORD>();

@@ -1,5 +1,5 @@
 -- Laws of the lines of lotsampling, lottolerance and lotmixing. Assumes nothing.
-use mathlib.Core.Path.{◌≡◌, refl, ap, subst, ◌∙◌}
+use mathlib.Core.Path.{◌≡◌, ap, subst, ◌∙◌}
 use mathlib.Core.Bool.{Bool, true, false}
 use mathlib.Core.List.{List, ◌++◌}
 use Prim.Native.Nat.{ℕ, ◌+◌, ◌≤◌, ◌<◌}
@@ -19,10 +19,7 @@ use Rattle.program_lines.specs.Lines.{line_places, ended, line_of, yes_or_no}
 length_ended : (t : List ℕ) → length (ended t) ≡ length t + 1
 length_ended t = length-append t (text "\n")
 
--- a line whose length was looked at first: nothing is written where it does not fit, and where it fits it is laid
-pub ended_short : (t d : List ℕ) → length d ≤ length t → LaysAt (ended t) 0 d d 0
-ended_short t d h = record { fits = λ g. absurd (omega (arith, length_ended t)); short = λ g. (refl, refl) }
-
+-- a line whose length was looked at first is laid where it fits
 pub ended_fits : (t d e : List ℕ) (r : ℕ) → length t < length d → Fitting (ended t) 0 d e r → LaysAt (ended t) 0 d e r
 ended_fits t d e r h f =
     let fits : 0 + length (ended t) ≤ length d = omega (arith, length_ended t) in

@@ -29,7 +29,7 @@ impl From<Refusal> for Unsaid {
 pub const WORD: usize = 131072;
 
 // The word that stands in the first `n` bytes of a buffer, as it was given: an array, since its length says that there are places for
-// every word.
+// every word. `program_input::sheet_of` is the same expression around another promise.
 pub fn word(buffer: &[u8; WORD], n: usize) -> &[u8]
     ensures result_value { result.now ≡ take n buffer.now }
     ensures by_index { (given : List ℕ) → GivenAs given buffer.now n → result.now ≡ given }
