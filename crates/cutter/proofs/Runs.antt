@@ -1,5 +1,5 @@
 -- A run of bytes, whatever the test. Assumes nothing.
-use mathlib.Core.Path.{◌≡◌, refl, sym, ◌∙◌}
+use mathlib.Core.Path.{◌≡◌, refl, sym}
 use mathlib.Core.Bool.{Bool, true, false, cond, ◌&&◌}
 use mathlib.Core.List.{List, [], ◌∷◌}
 use Prim.Native.Nat.{ℕ, suc, ◌+◌, ◌-◌, ◌≤◌, ◌<◌, min}
@@ -37,13 +37,6 @@ module _ (p : ℕ → Bool) where
 
   pub run_only : (l : List ℕ) (n : ℕ) → n ≤ length l → ((i : ℕ) → i < n → p (get_or l i 0) ≡ true) → (n < length l → p (get_or l n 0) ≡ false) → run_of p l ≡ n
   run_only l n h f g = rw (run_is l) (prefix_len_is p l n 0 h f g)
-
-  -- at a place of a list
-  pub run_stop : (l : List ℕ) (i : ℕ) → i < length l → p (get_or l i 0) ≡ false → run_of p (drop i l) ≡ 0
-  run_stop l i h e = run_is (drop i l) ∙ prefix_len-drop_no p l i 0 h e
-
-  pub run_step : (l : List ℕ) (i : ℕ) → i < length l → p (get_or l i 0) ≡ true → i + run_of p (drop i l) ≡ (i + 1) + run_of p (drop (i + 1) l)
-  run_step l i h e = omega (arith, run_is (drop i l), run_is (drop (i + 1) l), prefix_len-drop_yes p l i 0 h e)
 
   pub run_length : (s : List ℕ) (a : ℕ) → length (run_at p s a) ≡ run_of p (drop a s)
   unfolding run_at

@@ -19,11 +19,6 @@ use Rattle.std.specs.Prelude.{Option, Some, None, MatchOption, HoldsAt}
 use Rattle.std.specs.List.{AllWithin}
 use Rattle.held_lists.specs.Places.{stored, Apart, Without, FoundAt, Found}
 
--- a place more that was looked at, where those before it had no k if their tests say so
-pub without_more : (l : List ℕ) (k n : ℕ) (b : Bool) → (b ≡ true → Without l n k) → b && not (eqb (get_or l n 0) k) ≡ true → Without l (n + 1) k
-without_more l k n b f e =
-    below_more (λ j. get_or l j 0 ≡ k → ⊥) n (f (and_left b _ e)) (eqb-false (get_or l n 0) k (not-true _ (and_right b _ e)))
-
 pub fewer : (l : List ℕ) (n : ℕ) → Apart l (suc n) → Apart l n
 fewer l n h i j a b e = h i j (omega arith) (omega arith) e
 

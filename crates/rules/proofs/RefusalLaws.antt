@@ -1,12 +1,11 @@
 -- No refusal has the number 0: it tells that a call is accepted. Assumes nothing.
 use mathlib.Core.Path.{◌≡◌, refl, sym, ap, ◌∙◌}
-use mathlib.Core.Bool.{Bool, true, false, true≢false}
 use Prim.Native.Nat.{ℕ}
 use lib.Dec.{eqb}
 use borrow.Author.Tests.{eqb-false, ne_eqb}
-use Rattle.std.specs.Prelude.{Result, Ok, Err, ⊤, is_ok, is_err, IsErrAnd}
+use Rattle.std.specs.Prelude.{Result, Ok, Err, IsErrAnd}
 use Rattle.rules.specs.Choice.{pick}
-use Rattle.rules.specs.Numbers.{number_of, number_in, text_size}
+use Rattle.rules.specs.Numbers.{number_of, text_size}
 use Rattle.rules.specs.declared.Refusal.{Refusal}
 use Rattle.rules.specs.declared.Refusal.TheVariants.{BadLine, OutOfTurn, BadLot, BadCard, CardFull, NoSuchContainer, ResultTooHigh, AlreadyHeld, Full, NotHeld, OtherLot, SharedContainer, TooManyTogether, CountWrong, TooFew, BufferShort, OutsideTable, NotSteady, BadWeight, BadListLine}
 
@@ -31,31 +30,6 @@ never_zero OutsideTable = eqb-false 17 0 refl
 never_zero NotSteady = eqb-false 18 0 refl
 never_zero BadWeight = eqb-false 19 0 refl
 never_zero BadListLine = eqb-false 20 0 refl
-
--- a call is answered with the number 0 where its result is Ok, and there alone
-pub zero_is_ok : (r : Result ⊤ Refusal) → eqb (number_in r) 0 ≡ is_ok r
-zero_is_ok (Ok u) = refl
-zero_is_ok (Err e) = ne_eqb (number_of e) 0 (never_zero e)
-
-pub ok_of_zero : (r : Result ⊤ Refusal) → number_in r ≡ 0 → is_ok r ≡ true
-ok_of_zero (Ok u) z = refl
-ok_of_zero (Err e) z = absurd (never_zero e z)
-
-pub zero_of_ok : (r : Result ⊤ Refusal) → is_ok r ≡ true → number_in r ≡ 0
-zero_of_ok (Ok u) z = refl
-zero_of_ok (Err e) z = absurd (true≢false (sym z))
-
-pub not_zero : (r : Result ⊤ Refusal) → is_ok r ≡ false → number_in r ≡ 0 → ⊥
-not_zero (Ok u) z = absurd (true≢false z)
-not_zero (Err e) z = never_zero e
-
-pub zero_of_no_err : (r : Result ⊤ Refusal) → is_err r ≡ false → number_in r ≡ 0
-zero_of_no_err (Ok u) z = refl
-zero_of_no_err (Err e) z = absurd (true≢false z)
-
-pub err_not_zero : (r : Result ⊤ Refusal) → is_err r ≡ true → number_in r ≡ 0 → ⊥
-err_not_zero (Ok u) z = absurd (true≢false (sym z))
-err_not_zero (Err e) z = never_zero e
 
 -- what `?` hands on is the refusal that was given
 pub passed_on : {A : Type 0} {r : Result A Refusal} {e : Refusal} → IsErrAnd r (λ f. f ≡ e) → r ≡ Err e
