@@ -16,7 +16,7 @@ fn enter_entry(t: &mut Tally, entry: Option<Entry>) -> Result<(), Refusal>
 }
 
 // The lines one after another, up to the first that is refused. Each begins where the one before it ended, so that the loop goes by that
-// place and not by a count.
+// place and not by a count. With `map_err` and `?` for the fault of a line the proof did not close.
 #[tactic(auto, using(crate::proofs::Entering::reached_start, crate::proofs::Entering::taken_all))]
 fn take_lines(t: &mut Tally, list: &[u8]) -> Result<(), Fault>
     ensures { Takes t.old list.now result t.new }

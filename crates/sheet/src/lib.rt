@@ -1,5 +1,6 @@
 // A sheet's bytes in; its tally or its first fault out. The lines of lot and card are read first, then, once the lot is opened, those
-// of the results. Each line begins where the one before it ended, so that the loops go by that place and not by a count.
+// of the results. Each line begins where the one before it ended, so that the loops go by that place and not by a count. With `map_err`
+// and `?` for the fault of a line, in place of a `match`, the proof did not close.
 #![tactic(auto)]
 
 ghost use Rattle.std.specs.Prelude.{◌≡◌, ℕ};
