@@ -12,7 +12,7 @@ use std::io::Read;
 use std::rt::Files;
 use std::{fs, io, str};
 
-// A buffer of N places, each 0. A call, since the check computes with every place of an array that is written out.
+// A buffer of N places, each 0. A call, since the proof computes with every place of an array that is written out.
 pub fn zeroed<const N: usize>() -> [u8; N]
     ensures places { N ≡ length result }
     ensures zeros { EachIndex result (λ k. slice_index result k ≡ 0) }
@@ -21,7 +21,7 @@ pub fn zeroed<const N: usize>() -> [u8; N]
 }
 
 // Reads until the buffer is full or the input ends. Of an input whose bytes are known: the buffer has those that it had left, and where
-// they do not fill the buffer, none is left.
+// they do not fill the buffer, none is left. The place goes on by what each read gives, which no iterator of the library does.
 pub fn read_full<R: Read>(from: &mut R, buffer: &mut [u8]) -> io::Result<usize>
     ensures bound { ReadsAtMost result buffer.new }
     ensures bytes { IfOk result (λ n. Consumes (R.remaining from.old) (R.remaining from.new) (take n buffer.new)) }
@@ -38,7 +38,8 @@ pub fn read_full<R: Read>(from: &mut R, buffer: &mut [u8]) -> io::Result<usize>
     Ok(done)
 }
 
-// The bytes of a file, as many as fit, up to where it cannot be read any more; none where it cannot be read at all.
+// The bytes of a file, as many as fit, up to where it cannot be read any more; none where it cannot be read at all. Not
+// `read_full`: what came before a failed read counts here.
 pub fn read_file(rt: &impl Files, name: &[u8], buffer: &mut [u8]) -> usize
     ensures { IsPrefixLen result buffer.new }
 {
@@ -59,6 +60,7 @@ pub fn read_file(rt: &impl Files, name: &[u8], buffer: &mut [u8]) -> usize
 }
 
 // The word at this place of those that the program was given, its own name at 0; none where it is missing or does not fit.
+// No `Result`: a word that is missing is an empty one for every caller.
 pub fn word(rt: &impl Env, place: usize, buffer: &mut [u8]) -> usize
     ensures { IsPrefixLen result buffer.new }
 {

@@ -26,7 +26,7 @@ fn mixing(rt: &impl Print, line: &CallLine) -> io::Result<()> {
     }
 }
 
-// A call that changes its tally; an unknown call changes nothing.
+// A call that changes its tally; an unknown call changes nothing. Apart from `make`, since each is answered with what is then held.
 fn change(rt: &impl Print, line: &CallLine, t: &mut Tally, other: &Tally) -> io::Result<()> {
     let answer = match line.name {
         b"open" => tallies::open(t, &line.numbers),

@@ -1,14 +1,11 @@
 // The calls on a tally that is lent.
 use crate::lines::{self, CallLine, MOST_NUMBERS};
 use crate::print;
+// A number as 16 bits: a larger one is handed on as the largest, as a result is.
+use narrowed::result as narrow;
 use rules::{CRITICALS, Card, Head, Lot, MOST_ROWS, Pans, Refusal};
 use std::io;
 use tally::Tally;
-
-// The number as 16 bits; a larger one as the largest. No cast of the language does so in one word.
-fn narrow(n: u32) -> u16 {
-    u16::try_from(n).unwrap_or(u16::MAX)
-}
 
 // open TALLY ATTRIBUTE CONTAINERS F G n ROWS LOWEST HIGHEST BOUND TOLERATED N CRITICAL+1
 pub fn open(t: &mut Tally, numbers: &[u32; MOST_NUMBERS]) -> Result<(), Refusal> {

@@ -83,6 +83,7 @@ impl<'a> Bytes<'a> {
         self.take().map(|bytes| u16::from_be_bytes(*bytes))
     }
 
+    // A number of four bytes. Two widths: a trait for the two would be no plainer.
     fn wide_number(&mut self) -> Option<u32> {
         self.take().map(|bytes| u32::from_be_bytes(*bytes))
     }

@@ -10,7 +10,7 @@ mod tallies;
 use calls::Bytes;
 
 // Makes the calls of a list and lays their answers into the buffer; gives the number of bytes laid. A call whose answer has no room is
-// not made, and ends the list.
+// not made, and ends the list: so the loop has a `break`, and no `for` would be plainer.
 #[unsafe(no_mangle)]
 pub extern "C" fn gelvorin_calls(list: &[u8], buf: &mut [u8]) -> u64 {
     let mut tallies = [tally::fresh(); 2];

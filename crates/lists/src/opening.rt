@@ -19,7 +19,7 @@ impl Opening<'_> {
         u16::from_be_bytes([self.bytes[at], self.bytes[at + 1]])
     }
 
-    // The number that the four bytes from `at` on spell.
+    // The number that the four bytes from `at` on spell. Two widths: a trait for the two would be no plainer.
     fn four(self, at: usize) -> u32
         requires { at ≤ 1020 }
     {

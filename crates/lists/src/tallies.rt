@@ -24,7 +24,7 @@ fn written(t: &Tally, text: Text, lent: &mut [u8]) -> Result<usize, Refusal> {
     }
 }
 
-// Joins the tally itself or the other one into it.
+// Joins the tally itself or the other one into it. Two tallies and which is named: no buffer with a length.
 fn joined(tallies: &mut [Tally; 2], on: usize, itself: bool) -> Result<(), Refusal>
     requires { on < 2 }
 {

@@ -38,7 +38,8 @@ fn lines_of(read: &[u8]) -> &[u8]
     &read[..ended_bytes(read)]
 }
 
-// The text for a sheet and these lines of a list. `whole`: they are all of it.
+// The text for a sheet and these lines of a list. `whole`: they are all of it. A flag: an `Option` would have to hold the lines both where
+// they are all of it and where they are not.
 fn enter_lines(sheet: &[u8], lines: &[u8], whole: bool, text: &mut [u8]) -> usize
     ensures { ShowsEntered sheet.now lines.now whole text.old text.new result }
 {
@@ -75,6 +76,10 @@ fn main(rt: HostRuntime) -> io::Result<()> {
     let mut text: [u8; TEXT] = buffers::zeroed();
     let m = read_file(&rt, 1, &mut sheet);
     let n = read_file(&rt, 2, &mut list);
-    let size = answer(program_input::sheet_of(&sheet, m), &list[..n], &mut text);
+    let size = answer(
+        program_input::sheet_of(&sheet, m),
+        program_input::front(&list, n),
+        &mut text,
+    );
     rt.write_all(&text[..size])
 }

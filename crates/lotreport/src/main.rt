@@ -13,8 +13,8 @@ use std::io;
 // Places for the text: none that is printed is longer.
 const TEXT: usize = 256;
 
-// `answer` and `main` are those of lotlist but for the call and the places. One function for both would take the call as a closure on a
-// buffer of any length, and could promise nothing where that is too short.
+// `answer` and `main` are those of lotlist but for the call and the places. Each is a few lines around its own promise, and one for both
+// would be no plainer.
 
 // The text to every input of which this is the sheet, and its length.
 fn answer(sheet: &[u8], text: &mut [u8; TEXT]) -> usize

@@ -1,5 +1,5 @@
 // A container and a result of 32 bits, handed on to the calls on a tally, which take 16. What is handed on is answered as the number
-// itself is (proofs/Answered.antt).
+// itself is (proofs/Answered.antt). Two calls, each with the number that its promise needs: one with a const parameter would be no plainer.
 #![tactic(auto)]
 
 ghost use Rattle.std.specs.Prelude.{◌≡◌};

@@ -1,5 +1,5 @@
 -- What the bytes that were read tell of an input that begins with them. Assumes nothing.
-use mathlib.Core.Path.{◌≡◌, sym, ap, ◌∙◌}
+use mathlib.Core.Path.{◌≡◌, sym, ◌∙◌}
 use mathlib.Core.List.{List}
 use Prim.Native.Nat.{ℕ, ◌≤◌, ◌<◌, min}
 use native.Mathlib.Decide.{dec_lt}
@@ -12,20 +12,13 @@ use Rattle.program_input.specs.Input.{BeginsWith, IsSheetOf}
 use Rattle.program_input.specs.declared.TheConstants.{SHEET}
 
 -- the bytes that count are the input's first ones, as many as the buffer has places, or all of it
-pub front : (input buffer : List ℕ) (n k : ℕ) → k ≡ min n (length buffer) → BeginsWith input buffer n → take k buffer ≡ take (length buffer) input
-front input buffer n k e b = sym (take-take k n buffer (omega arith)) ∙ rw (sym b.begins) (take-take k n input (omega arith) ∙ by (dec_lt n (length buffer)))
+pub front : (input buffer : List ℕ) (n k m : ℕ) → k ≡ min n m → length buffer ≡ m → BeginsWith input buffer n → take k buffer ≡ take m input
+front input buffer n k m e l b = sym (take-take k n buffer (omega arith)) ∙ rw (sym b.begins) (take-take k n input (omega arith) ∙ by (dec_lt n m))
   where
-    by : Dec (n < length buffer) → take k input ≡ take (length buffer) input
-    by (yes h) = let all : length input ≤ n = b.whole h in take_all k input (omega arith) ∙ sym (take_all (length buffer) input (omega arith))
-    by (no h) = let full : k ≡ length buffer = omega arith in rw full
-
-pub sheet_read : (input buffer : List ℕ) (n k : ℕ) → k ≡ min n (length buffer) → length buffer ≡ SHEET → BeginsWith input buffer n → IsSheetOf input (take k buffer)
-sheet_read input buffer n k e h b = front input buffer n k e b ∙ ap (λ (m : ℕ). take m input) h
+    by : Dec (n < m) → take k input ≡ take m input
+    by (yes h) = let all : length input ≤ n = b.whole (omega arith) in take_all k input (omega arith) ∙ sym (take_all m input (omega arith))
+    by (no h) = let full : k ≡ m = omega arith in rw full
 
 -- a sheet is read as all of its input is
 pub sheet_says : (input sheet : List ℕ) → IsSheetOf input sheet → read_of sheet ≡ read_of input
 sheet_says input sheet e = rw e (prefix_read input SHEET (omega arith))
-
-pub read_same : (input buffer : List ℕ) (n k : ℕ) → k ≡ min n (length buffer) → length buffer ≡ SHEET → BeginsWith input buffer n
-    → read_of (take k buffer) ≡ read_of input
-read_same input buffer n k e h b = sheet_says input (take k buffer) (sheet_read input buffer n k e h b)

@@ -13,6 +13,7 @@ use program_words::Unsaid;
 pub const LINE: usize = 128;
 
 // Each line goes to the front of a buffer, and its length is answered; where it does not fit, nothing is written and 0 is answered.
+// No `Result`: the buffers of the programs have room for every line that they print.
 fn text_line(buf: &mut [u8], text: &[u8]) -> usize
     ensures { LaysAt (ended text.now) 0 buf.old buf.new result }
 {

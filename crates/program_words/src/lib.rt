@@ -29,7 +29,7 @@ impl From<Refusal> for Unsaid {
 pub const WORD: usize = 131072;
 
 // The word that stands in the first `n` bytes of a buffer, as it was given: an array, since its length says that there are places for
-// every word. `program_input::sheet_of` is the same expression around another promise.
+// every word. `program_input::front` is the same expression, and promises of an input that begins with the bytes, not of the bytes alone.
 pub fn word(buffer: &[u8; WORD], n: usize) -> &[u8]
     ensures result_value { result.now ≡ take n buffer.now }
     ensures by_index { (given : List ℕ) → GivenAs given buffer.now n → result.now ≡ given }
@@ -37,7 +37,8 @@ pub fn word(buffer: &[u8; WORD], n: usize) -> &[u8]
     &buffer[..n.min(WORD)]
 }
 
-// Two words as numbers. `counted`: there are as many words as the program takes.
+// Two words as numbers. `counted`: there are as many words as the program takes. A flag: for an `Option` of the words each caller would
+// make the same test.
 pub fn two_numbers(counted: bool, first: &[u8], second: &[u8]) -> Option<(u32, u32)>
     ensures { result ≡ two_numbers counted (word_of first.now) (word_of second.now) }
 {
