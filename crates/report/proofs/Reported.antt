@@ -6,6 +6,7 @@ use native.Mathlib.Nat.{le_refl}
 use mathlib.Core.Path.{◌≡◌, refl, sym, ap, ◌∙◌}
 use mathlib.Core.Bool.{Bool, true, false, true≢false}
 use mathlib.Core.List.{List}
+use mathlib.Core.Logic.{inl, inr}
 use lib.Dec.{ltb}
 use lib.ListN.{length, take, drop}
 use lib.Seq.{get_or-take}
@@ -26,7 +27,7 @@ use Rattle.rules.specs.declared.Figures.{Figures}
 use Rattle.rules.specs.declared.Fraction.{Fraction}
 use Rattle.rules.specs.declared.Findings.{Findings}
 use Rattle.rules.specs.declared.Refusal.{Refusal}
-use Rattle.rules.specs.declared.Refusal.TheVariants.{TooFew}
+use Rattle.rules.specs.declared.Refusal.TheVariants.{TooFew, BufferShort}
 use Rattle.rules.proofs.TextLaws.{drop_laid}
 use Rattle.tally.specs.declared.Tally.{Tally}
 use Rattle.tally.specs.View.{view}
@@ -92,7 +93,11 @@ module _ (t : Tally) (a : Attribute) (o : Option Findings) (lot : a ≡ attribut
   -- nothing was found: a sound tally holds too few results
   pub too_few : (before : List ℕ) → o ≡ None → Reports t before (Err TooFew) before
   too_few before q =
-      record { right = λ s. rw (size_is_lem t s, lt-ltb t.held least_reported (few s (dec_le least_reported t.held))) refl; kept = refl }
+      record {
+        right = λ s. rw (size_is_lem t s, lt-ltb t.held least_reported (few s (dec_le least_reported t.held))) refl;
+        which = λ e r. inl cc;
+        kept = refl;
+      }
     where
       few : Sound t → Dec (least_reported ≤ t.held) → t.held < least_reported
       few s (yes h) =
@@ -102,7 +107,7 @@ module _ (t : Tally) (a : Attribute) (o : Option Findings) (lot : a ≡ attribut
 
   -- the findings have the text of the ledger's report
   pub written : (found : Findings) (before after : List ℕ) (r : Result ℕ Refusal) → o ≡ Some found
-      → text_answer r after ≡ laid_in (findings_text found) before
+      → (text_answer r after ≡ laid_in (findings_text found) before) × ((e : Refusal) → r ≡ Err e → e ≡ BufferShort)
       → Reports t before r after
   written found before after r q l =
       let here = within (dec_le t.held (length t.results)) in
@@ -111,8 +116,9 @@ module _ (t : Tally) (a : Attribute) (o : Option Findings) (lot : a ≡ attribut
       let many : least_reported ≤ t.held = omega (arith, count_in_order t.results t.held) in
       let text_is : Sound t → report_of (view t) ≡ findings_text found = λ s. rw (figures_are t s, findings_cut, ← lot, w.1) refl in
       record {
-        right = λ s. l ∙ sym (rw (text_is s, size_is_lem t s, le-ltb t.held least_reported many) refl);
-        kept = kept_behind (findings_text found) before (text_answer r after) l;
+        right = λ s. l.0 ∙ sym (rw (text_is s, size_is_lem t s, le-ltb t.held least_reported many) refl);
+        which = λ e k. inr (l.1 e k);
+        kept = kept_behind (findings_text found) before (text_answer r after) l.0;
       }
     where
       within : Dec (t.held ≤ length t.results) → t.held ≤ length t.results

@@ -2,10 +2,11 @@
 // piece gets the place behind the one before.
 #![tactic(auto)]
 
-ghost use Rattle.std.specs.Prelude.{◌≡◌, ◌++◌};
+ghost use Rattle.std.specs.Prelude.{◌≡◌, ◌++◌, Err};
 ghost use Rattle.rules.specs.Numbers.{text_answer};
 ghost use Rattle.rules.specs.Text.{text, pointed, laid_in};
 ghost use Rattle.rules.specs.Report.{mark_text, limit_text, value_line, lot_verdict_line, judgement_text, findings_text};
+ghost use Rattle.rules.specs.declared.Refusal.TheVariants.{BufferShort};
 ghost use Rattle.decimal.specs.Laying.{LaysAt, LaysLine};
 
 use report_size::words;
@@ -81,7 +82,7 @@ fn lines(buf: &mut [u8], s: Findings) -> usize
 // The text of findings and its length. Where it does not fit, nothing is written.
 #[tactic(auto, using(rules::proofs::TextLaws::short_is, rules::proofs::TextLaws::fits_is))]
 pub fn five_lines(buf: &mut [u8], s: Findings) -> Result<usize, Refusal>
-    ensures { text_answer result buf.new ≡ laid_in (findings_text s) buf.old }
+    ensures { (text_answer result buf.new ≡ laid_in (findings_text s) buf.old) × ((e : Refusal) → result ≡ Err e → e ≡ BufferShort) }
 {
     if buf.len() < report_size::size(s) {
         return Err(Refusal::BufferShort);
