@@ -33,7 +33,8 @@ pub fn head_good(attribute: u16, h: Head) -> bool
         && seeds_good(attribute, h.seeds)
 }
 
-// Whether N of a critical frame may follow that of the critical frame before, 0 for none.
+// Whether N of a critical frame may follow that of the critical frame before. 0 for none, and no `Option`: every N is above 0, so that one
+// comparison serves both.
 pub fn critical_follows(last: u16, n: u16) -> bool
     ensures { result ≡ critical_follows last n }
 {

@@ -9,23 +9,20 @@ ghost use Rattle.head_steps.specs.Promise.{at_first, is_result, HeadStepIs, Head
 
 use rules::{Card, Frame, Head, Lot, MOST_ROWS, Refusal, Stage};
 
-// What the lines of lot and card came to, beside the card: the stage, the lot, and N of the critical frame before, 0 for none.
-#[derive(Clone, Copy)]
+// What the lines of lot and card came to, beside the card: the stage, the lot, and N of the critical frame before, 0 for none. No
+// `Option`: every N is above 0, so that one comparison serves both.
+#[derive(Clone, Copy, Default)]
 pub struct Progress {
     pub stage: Stage,
     pub lot: Lot,
     pub last: u16,
 }
 
-// Nothing is read. No derived default: a stage has none, and one of its own for this call would be no plainer.
+// Nothing is read.
 pub fn start() -> Progress
     ensures { result ≡ at_first }
 {
-    Progress {
-        stage: Stage::Start,
-        lot: Lot::default(),
-        last: 0,
-    }
+    Progress::default()
 }
 
 #[tactic(auto, unfolding(rules::specs::Reading::lot_step))]

@@ -64,7 +64,8 @@ pub enum Attribute {
     Count,
 }
 
-// A lot: its attribute's number (00 purity, 01 germination, 02 count) and N0, how many containers it has.
+// A lot: its attribute's number (00 purity, 01 germination, 02 count) and N0, how many containers it has. The attribute is a number,
+// since an open refuses those above 2: an `Attribute` would ask more of callers.
 #[derive(Clone, Copy, Debug, Default, PartialEq, Eq)]
 pub struct Lot {
     pub attribute: u16,
@@ -80,7 +81,8 @@ pub struct Head {
 }
 
 // A card (document 01's term): the numbers that a lot is judged by. critical has at N one more than the critical H for N results, and
-// 0 where there is none.
+// 0 where there is none: one comparison tests a place, and a fresh card is zeros. An `Option` at each of the places would be taken apart
+// for each of these, and be no plainer.
 // The range rows fill four lists; places past the last row count for nothing.
 #[derive(Clone, Copy)]
 pub struct Card {
@@ -119,8 +121,9 @@ pub enum Refusal {
 }
 
 // The stages of a sheet: which frame was read last.
-#[derive(Clone, Copy, Debug, PartialEq, Eq)]
+#[derive(Clone, Copy, Debug, Default, PartialEq, Eq)]
 pub enum Stage {
+    #[default]
     Start,
     Lot,
     Card,
@@ -130,8 +133,7 @@ pub enum Stage {
     End,
 }
 
-// What a line of a sheet says (document 01's term: a frame). `Bad` stands among the kinds, as in the definitions: a frame or none would
-// be no plainer, since each match has one arm for it either way.
+// What a line of a sheet says (document 01's term: a frame). The definitions have `Bad` among the kinds, and keep their meaning.
 #[derive(Clone, Copy)]
 pub enum Frame {
     Bad,
@@ -208,7 +210,7 @@ pub struct Fraction {
     pub under: u64,
 }
 
-// Undecided: without a limit.
+// Undecided: without a limit, document 01's `open`.
 #[derive(Clone, Copy, Debug, PartialEq, Eq)]
 pub enum Verdict {
     Kept,
@@ -216,7 +218,8 @@ pub enum Verdict {
     Undecided,
 }
 
-// On which side of a printed number the exact one is. Unrounded: the number was not rounded, and has no mark.
+// On which side of a printed number the exact one is. Unrounded: the number was not rounded, and has no mark. It stands among the sides,
+// as the definitions have it: an `Option` of a side would be taken apart wherever a mark is laid.
 #[derive(Clone, Copy, Debug, PartialEq, Eq)]
 pub enum Side {
     Unrounded,

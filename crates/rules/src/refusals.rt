@@ -1,4 +1,4 @@
-// The number that documents 01 and 02 give to each refusal.
+// The number that documents 01 and 02 give to each refusal. A table as the documents have it; each number stands once.
 ghost use Rattle.std.specs.Prelude.{◌≡◌};
 ghost use Rattle.rules.specs.Numbers.{number_of};
 
