@@ -17,7 +17,8 @@ pub fn front<const N: usize>(buffer: &[u8; N], read: usize) -> &[u8]
     &buffer[..read.min(N)]
 }
 
-// Those of a buffer for a sheet: they are the sheet of every input that begins with them, and say what it says.
+// Those of a buffer for a sheet, an array for the same reason: they are the sheet of every input that begins with them, and say what it
+// says.
 #[tactic(auto, using(crate::proofs::Beginning::sheet_says))]
 pub fn sheet_of(buffer: &[u8; SHEET], read: usize) -> &[u8]
     ensures sheet { (input : List ℕ) → BeginsWith input buffer.now read → IsSheetOf input result.now }
