@@ -1,4 +1,5 @@
-// An answer as one number, for a host program.
+// An answer as one number, for a host program. A cast with `as` keeps every bit of what it is given: a `usize` has no `From` to
+// or from these numbers.
 #![tactic(auto)]
 
 ghost use Rattle.std.specs.Prelude.{◌≡◌, min, MatchResult};

@@ -1,4 +1,5 @@
-// The findings of a report: what its five lines say.
+// The findings of a report: what its five lines say. A cast with `as` keeps every bit of what it is given, as the proof shows; `try_from`
+// would be no plainer, since it needs a value for the case that cannot be.
 #![tactic(auto)]
 
 ghost use Rattle.std.specs.Prelude.{◌≡◌, ◌*◌, ◌≤◌, length, false};
@@ -16,9 +17,6 @@ use rules::{
 
 mod figures;
 mod values;
-
-// Where a number is cast with `as`, here and in what follows, the check proves that no bit of it is lost; `try_from` would be no plainer,
-// as it needs a value for the case that cannot be.
 
 // The mean in units of its last printed place, half up, with its side.
 #[tactic(auto, using(crate::proofs::ValueLaws::mean_laws), unfolding(rules::specs::Figures::mean_of))]

@@ -1,4 +1,4 @@
-// A line's fields of hexadecimal digits, and the frame that a line is.
+// A line's fields of hexadecimal digits, and the frame that a line is. A cast with `as` keeps every bit of what it is given.
 #![tactic(auto)]
 
 ghost use Rattle.std.specs.Prelude.{◌≡◌, true, ◌+◌, ◌≤◌, ◌<◌, length, get_or};
@@ -34,7 +34,7 @@ impl Digits<'_> {
         ensures { result ≡ value_of (get_or self.now.line.now at 0) }
     {
         let c = self.line[at];
-        (c % 16 + c / 64 * 9) as u16
+        u16::from(c % 16 + c / 64 * 9)
     }
 
     // The field of two digits from `from` on.
@@ -73,8 +73,8 @@ impl Digits<'_> {
         requires { from + 8 ≤ length self.now.line.now }
         ensures { result ≡ float_of self.now.line.now from }
     {
-        let high = self.four(from) as u32;
-        let low = self.four(from + 4) as u32;
+        let high = u32::from(self.four(from));
+        let low = u32::from(self.four(from + 4));
         weights::float(high * 65536 + low)
     }
 

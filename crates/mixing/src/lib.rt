@@ -7,7 +7,7 @@ ghost use Rattle.rules.specs.Mixing.{mixing_of, largest_of, smallest_of};
 
 use rules::{FEWEST_MIXED, HIGHEST_X, MOST_MIXED, Refusal};
 
-// The highest result, as the results are given here.
+// The highest result, as the results are given here. By `as`, since a constant cannot call `From`; every bit is kept.
 const HIGHEST: u32 = HIGHEST_X as u32;
 
 // The largest and the smallest of the results; of none, 0 and the highest result.

@@ -1,4 +1,5 @@
-// The line of a refusal: REFUSED, its number, and where the fault stands. Each goes into a buffer where it fits.
+// The line of a refusal: REFUSED, its number, and where the fault stands. Each goes into a buffer where it fits. A cast with `as` keeps
+// every bit of what it is given.
 #![tactic(auto)]
 
 ghost use Rattle.std.specs.Prelude.{◌≡◌, ◌≤◌, sum_by, length};

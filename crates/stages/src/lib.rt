@@ -6,7 +6,7 @@ ghost use Rattle.rules.specs.Stages.{is_of_results, may_stand, is_ended};
 
 use rules::Stage;
 
-// A result, weighed or not, or the end.
+// A result, weighed or not, or the end. The kind is any number, as below.
 fn of_results(kind: u16) -> bool
     ensures { result ≡ is_of_results kind }
 {
@@ -14,7 +14,7 @@ fn of_results(kind: u16) -> bool
 }
 
 // Whether a frame of this kind may stand next. `kind` is any number, as in the definition: an enum of the kinds would stand beside it with
-// a conversion of its own, and be no plainer than the numbers of the document.
+// a conversion of its own, and be no plainer than the numbers of the document; and a narrower type would ask more of callers.
 pub fn takes(stage: Stage, kind: u16) -> bool
     ensures { result ≡ may_stand kind stage }
 {

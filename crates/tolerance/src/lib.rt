@@ -1,4 +1,5 @@
 // The AOSA tables 14G and 14H (004): a label against a test, and two tests. What is right is said in rules' specs/Tolerance.antt.
+// A cast with `as` keeps every bit of what it is given.
 #![tactic(auto)]
 
 ghost use Rattle.std.specs.Prelude.{◌≡◌};

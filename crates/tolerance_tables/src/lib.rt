@@ -1,5 +1,5 @@
 // The AOSA tables 14G and 14H, and how they are read. The compiler lays a constant array out anew at each use, so that a table has
-// numbers no wider than it needs and is used once in a call.
+// numbers no wider than it needs and is used once in a call. A cast with `as` keeps every bit of what it is given.
 #![tactic(auto)]
 
 ghost use Rattle.std.specs.Prelude.{◌≡◌, ◌≤◌, map, length, ltb, count_by};
@@ -25,7 +25,8 @@ fn rows_14h() -> [Row; 58]
     TABLE_14H
 }
 
-// How many rows have a top below an average: a sum of ones, so that no row makes a branch.
+// How many rows have a top below an average: a sum of ones, so that no row makes a branch. A search by halves, as `partition_point` is,
+// has a branch at each step.
 fn rows_below(rows: &[Row], average: u16) -> u16
     requires { length rows.now ≤ 57 }
     ensures { result ≡ count_by (λ row. ltb row.top average) rows.now }

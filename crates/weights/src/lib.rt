@@ -1,4 +1,5 @@
-// What a balance sends of a sample: 32 float bits to tenths of a milligram, and two weights to X.
+// What a balance sends of a sample: 32 float bits to tenths of a milligram, and two weights to X. A cast with `as` keeps every bit of
+// what it is given.
 #![tactic(auto)]
 
 ghost use Rattle.std.specs.Prelude.{◌≡◌};
