@@ -7,6 +7,15 @@ use rules::{CRITICALS, Card, Head, Lot, MOST_ROWS, Pans, Refusal};
 use std::io;
 use tally::Tally;
 
+// One critical value, at the place for N = n.
+fn criticals(n: u32, value: u32) -> [u32; CRITICALS] {
+    let mut critical = [0; CRITICALS];
+    if let Some(place) = critical.get_mut(n as usize) {
+        *place = value;
+    }
+    critical
+}
+
 // open TALLY ATTRIBUTE CONTAINERS F G n ROWS LOWEST HIGHEST BOUND TOLERATED N CRITICAL+1
 pub fn open(t: &mut Tally, numbers: &[u32; MOST_NUMBERS]) -> Result<(), Refusal> {
     let [
@@ -29,17 +38,13 @@ pub fn open(t: &mut Tally, numbers: &[u32; MOST_NUMBERS]) -> Result<(), Refusal>
         attribute: narrow(attribute),
         containers: narrow(containers),
     };
-    let mut critical = [0; CRITICALS];
-    if let Some(place) = critical.get_mut(n as usize) {
-        *place = value;
-    }
     let card = Card {
         head: Head {
             factor: narrow(factor),
             offset: narrow(offset),
             seeds: narrow(seeds),
         },
-        critical,
+        critical: criticals(n, value),
         rows: rows as usize,
         lowest: [narrow(lowest); MOST_ROWS],
         highest: [narrow(highest); MOST_ROWS],
