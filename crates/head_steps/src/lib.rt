@@ -1,4 +1,5 @@
-// What a line of lot or card does to what the lines before it came to.
+// What a line of lot or card does to what the lines before it came to. The card is lent, and the few numbers beside it are answered; a
+// struct of both would be taken apart by each step, and be no plainer.
 #![tactic(auto)]
 
 ghost use Rattle.std.specs.Prelude.{◌≡◌, true};

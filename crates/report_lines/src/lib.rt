@@ -1,5 +1,6 @@
 // The five lines of a report. Each writer of a line gets the rest of the buffer, behind the lines already laid down; inside a line each
-// piece gets the place behind the one before.
+// piece gets the place behind the one before. Places and number go one by one, as `decimal` takes them: a struct of both would be taken
+// apart for each call, and be no plainer.
 #![tactic(auto)]
 
 ghost use Rattle.std.specs.Prelude.{◌≡◌, ◌++◌, Err};

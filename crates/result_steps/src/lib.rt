@@ -1,4 +1,5 @@
-// What a line of a sheet does once the lot is opened: a result is entered or weighed, and the end counts them.
+// What a line of a sheet does once the lot is opened: a result is entered or weighed, and the end counts them. The tally is lent and the
+// stage answered, since a refused line leaves both; in a struct of both each step would take them apart, which is no plainer.
 #![tactic(auto)]
 
 ghost use Rattle.rules.specs.declared.Frame.TheVariants as frame;

@@ -35,7 +35,8 @@ impl Bounds {
 }
 
 // The tolerated R of the first row, in the card's order, that serves n results with a mean of mean / scale: of mean units, of which
-// scale make one unit of X. A card has no row past MOST_ROWS, whatever number of rows it gives.
+// scale make one unit of X. The two go one by one: a struct of both would be made for this one call, and be no plainer. A card has no
+// row past MOST_ROWS, whatever number of rows it gives.
 pub fn tolerated_for(c: Card, n: u16, mean: u32, scale: u16) -> Option<u32>
     ensures { result ≡ tolerated_upto c n (record { over = mean; under = scale }) (min c.rows most_rows) }
 {
