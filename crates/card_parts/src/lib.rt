@@ -8,6 +8,7 @@ use rules::{
     HIGHEST_X, Head, LEAST_FACTOR, LEAST_REPORTED, MOST_FACTOR, MOST_HELD, MOST_OFFSET, MOST_SEEDS,
 };
 
+// By the two numbers of a lot, as a frame has them: a `Lot` would be put together to be looked at, and be no plainer.
 pub fn lot_good(attribute: u16, containers: u16) -> bool
     ensures { result ≡ lot_good attribute containers }
 {

@@ -13,8 +13,9 @@ use std::io;
 // Places for the text: none that is printed is longer.
 const TEXT: usize = 1024;
 
-// `answer` and `main` are those of lotreport but for the call and the places. One `answer` for both, over a trait, would ask of each program
-// a type, an impl with the call and the text, and the law of its greatest length, in place of a line around its own promise: no plainer.
+// `answer` and `main` are those of lotreport but for the call and the places. One `answer` for both, over a trait, would ask of each
+// program a type, an impl with the call and the text, and the law of its greatest length, in place of a line around its own promise: no
+// plainer.
 
 // The text to every input of which this is the sheet, and its length.
 fn answer(sheet: &[u8], text: &mut [u8; TEXT]) -> usize
