@@ -1,41 +1,39 @@
--- The figures of a walk over stored results, and what the tests of card and results show. Assumes nothing.
-use Prim.Native.Nat.{ℕ, zero, suc, ◌+◌, ◌≤◌, ◌<◌}
+-- The sums of stored results, and what the tests of card and results show. Assumes nothing.
+use Prim.Native.Nat.{ℕ, zero, suc, ◌*◌, ◌≤◌, ◌<◌}
 use native.Mathlib.Omega.{arith}
-use native.Mathlib.Numerals.{add-one}
 use mathlib.Core.Path.{◌≡◌, refl, ap, ◌∙◌}
 use mathlib.Core.Bool.{Bool, true, ◌&&◌}
 use mathlib.Core.List.{List}
 use lib.Dec.{leb}
-use Rattle.std.specs.Prelude.{Some, None}
 use lib.ListN.{get_or}
+use Rattle.std.specs.Prelude.{Some, None}
 use borrow.Author.Tests.{leb-true, le-leb}
 use Rattle.rules.specs.Choice.{pick}
 use Rattle.rules.specs.Limits.{least_reported, most_held, most_rows, highest_x, least_factor, most_factor, most_seeds, widest}
-use Rattle.rules.specs.Contents.{total, one, largest, smallest}
+use Rattle.rules.specs.Contents.{total, value, square, largest, smallest}
 use Rattle.rules.specs.Figures.{figures_of}
 use Rattle.rules.specs.Report.{findings_of}
-use Rattle.rules.specs.Spread.{Spread}
 use Rattle.rules.specs.declared.Attribute.{Attribute}
 use Rattle.rules.specs.declared.Card.{Card}
 use Rattle.rules.specs.declared.Figures.{Figures}
 use Rattle.rules.proofs.Tests.{and_left, and_right}
 use Rattle.rules.proofs.SpreadLaws.{spread_of}
-use Rattle.findings.specs.Reportable.{in_order, with_result, within_limits, reportable, found_of, most_served, IsReportable}
-
-pub count_in_order : (vs : List ℕ) (n : ℕ) → total one n (in_order vs) ≡ n
-unfolding total
-count_in_order vs zero = refl
-count_in_order vs (suc n) = omega (arith, count_in_order vs n)
+use Rattle.held_lists.specs.Places.{in_order}
+use Rattle.held_lists.proofs.InOrder.{count_in_order, largest_in_order}
+use Rattle.findings.specs.Reportable.{within_limits, reportable, found_of, IsReportable}
 
 ends_in_order : (vs : List ℕ) (n : ℕ) → 1 ≤ n → smallest n (in_order vs) ≤ largest n (in_order vs)
 unfolding smallest largest
 ends_in_order vs zero h = absurd (omega arith)
 ends_in_order vs (suc n) h = omega arith
 
--- one result more
-pub walk_more : (vs : List ℕ) (n : ℕ) → with_result (figures_of n (in_order vs)) (get_or vs n 0) ≡ figures_of (n + 1) (in_order vs)
-unfolding total smallest largest
-walk_more vs n = rw (add-one n) refl
+-- the two sums of as many results of 16 bits as can be held
+pub sums_most : (vs : List ℕ) (n : ℕ) → n ≤ most_held → ((i : ℕ) → i < n → get_or vs i 0 ≤ widest)
+    → (total value n (in_order vs) ≤ widest * most_held) × (total square n (in_order vs) ≤ widest * widest * most_held)
+sums_most vs n h low =
+    let s = spread_of widest n (in_order vs) (largest_in_order widest vs n low) in
+    let count = count_in_order vs n in
+    (omega (arith, s.sum_high, count), omega (arith, s.squares_high, s.sum_high, count))
 
 le_and : (a b : ℕ) (q : Bool) → leb a b && q ≡ true → (a ≤ b) × (q ≡ true)
 le_and a b q e = (leb-true a b (and_left (leb a b) q e), and_right (leb a b) q e)
@@ -44,11 +42,6 @@ le_and a b q e = (leb-true a b (and_left (leb a b) q e), and_right (leb a b) q e
 module _ (vs : List ℕ) (n : ℕ) (f : Figures) (e : f ≡ figures_of n (in_order vs)) where
   count_is : f.count ≡ n
   count_is = ap (λ (g : Figures). g.count) e ∙ count_in_order vs n
-
-  -- results of 16 bits leave room for one more
-  pub walk_served : n < most_served → f.largest ≤ widest → (f.count < most_served) × Spread widest f
-  walk_served h k =
-      let most : largest n (in_order vs) ≤ widest = rw e at k in (omega (arith, count_is), rw e (spread_of widest n (in_order vs) most))
 
   module _ (c : Card) (hi : n ≤ most_held) where
     pub is_reportable : within_limits c.head c.rows f ≡ true → IsReportable c f

@@ -1,8 +1,7 @@
--- The figures of results in the order in which they are stored, and when they are reported.
-use Rattle.std.specs.Prelude.{ℕ, zero, suc, ◌+◌, ◌*◌, ◌≤◌, min, max, Bool, ◌&&◌, List, leb, get_or, Option, Some, None}
+-- When figures are reported, and what is found then.
+use Rattle.std.specs.Prelude.{ℕ, ◌≤◌, Bool, ◌&&◌, leb, Option, Some, None}
 use Rattle.rules.specs.Choice.{pick}
 use Rattle.rules.specs.Limits.{least_reported, most_held, most_rows, highest_x, least_factor, most_factor, most_seeds}
-use Rattle.rules.specs.Contents.{Contents, free, holds}
 use Rattle.rules.specs.Report.{findings_of}
 use Rattle.rules.specs.Spread.{Spread, HeadWithin}
 use Rattle.rules.specs.declared.Attribute.{Attribute}
@@ -10,22 +9,6 @@ use Rattle.rules.specs.declared.Head.{Head}
 use Rattle.rules.specs.declared.Card.{Card}
 use Rattle.rules.specs.declared.Figures.{Figures}
 use Rattle.rules.specs.declared.Findings.{Findings}
-
--- the stored results as a map: place k of the list stands for container k + 1
-abbrev pub in_order : List ℕ → Contents
-in_order vs zero = free
-in_order vs (suc k) = holds (get_or vs k 0)
-
--- the figures with the result x more
-abbrev pub with_result : Figures → ℕ → Figures
-with_result f x =
-    record {
-      count = f.count + 1;
-      sum = f.sum + x;
-      squares = f.squares + x * x;
-      smallest = min f.smallest x;
-      largest = max f.largest x;
-    }
 
 -- There are enough results, and they and the card's F, n and rows keep to what an enter and an open accept. On those of a tally
 -- made in some other way numbers on the way to H could wrap, so this is looked at first.

@@ -1,47 +1,34 @@
 // The figures of the held results.
-ghost use Rattle.std.specs.Prelude.{◌≡◌, ◌≤◌, ◌<◌, length};
-ghost use Rattle.rules.specs.Limits.{most_held, widest};
+ghost use Rattle.std.specs.Prelude.{◌≡◌, ◌≤◌, length};
+ghost use Rattle.rules.specs.Limits.{most_held};
 ghost use Rattle.rules.specs.Figures.{figures_of};
-ghost use Rattle.rules.specs.Spread.{Spread};
-ghost use Rattle.findings.specs.Reportable.{in_order, with_result, within_limits, most_served};
+ghost use Rattle.held_lists.specs.Places.{in_order};
+ghost use Rattle.findings.specs.Reportable.{within_limits};
 
 use rules::{
     Figures, HIGHEST_X, Head, LEAST_FACTOR, LEAST_REPORTED, MOST_FACTOR, MOST_ROWS, MOST_SEEDS,
-    WIDEST,
 };
 
-// The figures with one result more, which has 16 bits.
-fn with_result(f: Figures, x: u16) -> Figures
-    requires { (f.count < most_served) × Spread widest f }
-    ensures { (result ≡ with_result f x) × (x ≤ widest) }
-{
-    let y = u64::from(x);
-    Figures {
-        count: f.count + 1,
-        sum: f.sum + u32::from(x),
-        squares: f.squares + y * y,
-        smallest: f.smallest.min(u32::from(x)),
-        largest: f.largest.max(u32::from(x)),
-    }
-}
-
-// The figures of results, in one walk.
-#[tactic(auto, using(crate::proofs::ReportableLaws::walk_more))]
+// The figures of results: how many there are and both ends of their range from the one walk that finds these, and the two sums.
 pub fn figures_of(results: &[u16]) -> Figures
     requires { length results.now ≤ most_held }
     ensures { result ≡ figures_of (length results.now) (in_order results.now) }
 {
-    let mut f = Figures {
-        count: 0,
-        sum: 0,
-        squares: 0,
-        smallest: WIDEST,
-        largest: 0,
-    };
+    let range = held_lists::range_of(results);
+    let mut sum = 0;
+    let mut squares = 0;
     for &x in results {
-        f = with_result(f, x);
+        let y = u64::from(x);
+        sum = sum + u32::from(x);
+        squares = squares + y * y;
     }
-    f
+    Figures {
+        count: range.read,
+        sum,
+        squares,
+        smallest: range.smallest,
+        largest: range.largest,
+    }
 }
 
 // Whether there are enough results, and whether they and the card's numbers keep to what an enter and an open accept.

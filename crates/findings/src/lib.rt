@@ -9,7 +9,8 @@ ghost use Rattle.rules.specs.Figures.{figures_of, mean_of, less_whole};
 ghost use Rattle.rules.specs.Report.{judgement_of, findings_of};
 ghost use Rattle.rounding.specs.Dividing.{Workable};
 ghost use Rattle.findings.specs.Values.{h_against, r_against};
-ghost use Rattle.findings.specs.Reportable.{in_order, found_of, Served, IsReportable};
+ghost use Rattle.held_lists.specs.Places.{in_order};
+ghost use Rattle.findings.specs.Reportable.{found_of, Served, IsReportable};
 
 use rules::{
     Attribute, Card, Figures, Findings, Fraction, Judgement, MOST_HELD, Rounded, Side, Value,

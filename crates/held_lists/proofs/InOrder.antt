@@ -2,9 +2,10 @@
 use Prim.Native.Nat.{ℕ, zero, suc, ◌+◌, ◌≤◌, ◌<◌, min, max}
 use native.Mathlib.Omega.{arith}
 use native.Mathlib.Numerals.{add-one}
-use mathlib.Core.Path.{◌≡◌, refl, sym, ap, ◌∙◌}
+use mathlib.Core.Path.{◌≡◌, refl, sym, ap, ap₂, ◌∙◌}
 use mathlib.Core.List.{List}
-use lib.ListN.{get_or}
+use lib.ListN.{length, take, get_or}
+use lib.Seq.{get_or-take, length-take-le}
 use Rattle.rules.specs.Limits.{widest}
 use Rattle.rules.specs.Contents.{Content, holds, total, one, smallest, largest}
 use Rattle.rules.specs.Figures.{figures_of}
@@ -40,6 +41,15 @@ unfolding largest
 largest_in_order m vs zero h = omega arith
 largest_in_order m vs (suc n) h = omega (arith, largest_in_order m vs n (λ i g. h i (omega arith)), h n (omega arith))
 
+-- the places past the first n do not matter
+same_places : (us vs : List ℕ) (n : ℕ) → ((i : ℕ) → i < n → get_or us i 0 ≡ get_or vs i 0) → figures_of n (in_order us) ≡ figures_of n (in_order vs)
+unfolding total smallest largest
+same_places us vs zero h = refl
+same_places us vs (suc n) h = ap₂ with_result (same_places us vs n (λ i g. h i (omega arith))) (h n (omega arith))
+
+pub figures_taken : (vs : List ℕ) (n : ℕ) → n ≤ length vs → figures_of (length (take n vs)) (in_order (take n vs)) ≡ figures_of n (in_order vs)
+figures_taken vs n h = rw (length-take-le n vs h) (same_places (take n vs) vs n (λ i g. get_or-take n vs i 0 g))
+
 low_in_order : (m : ℕ) (vs : List ℕ) (n : ℕ) → largest n (in_order vs) ≤ m → (i : ℕ) → i < n → get_or vs i 0 ≤ m
 low_in_order m vs n h i a = omega (arith, h, (ends_around n (in_order vs) (suc i) (get_or vs i 0) (omega arith) (omega arith) refl).1)
 
@@ -59,12 +69,9 @@ figures_stored m ks vs (suc n) d low =
 
 -- what a walk over n results of 16 bits comes to
 pub range_read : (vs : List ℕ) (n : ℕ) (r : Range) → r.read ≡ n → r.smallest ≡ smallest n (in_order vs) → r.largest ≡ largest n (in_order vs)
-    → r.largest ≤ widest → RangeRead vs n r
-range_read vs n r a b c h = record { places = rw places (is_range n (in_order vs) most); map = in_map }
+    → largest n (in_order vs) ≤ widest → RangeRead vs n r
+range_read vs n r a b c most = record { places = rw places (is_range n (in_order vs) most); map = in_map }
   where
-    most : largest n (in_order vs) ≤ widest
-    most = rw (← c) h
-
     places : r ≡ range_over n (in_order vs)
     places = λ i. record { read = (a ∙ sym (count_in_order vs n)) i; smallest = b i; largest = c i }
 

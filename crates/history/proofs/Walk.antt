@@ -15,8 +15,8 @@ use Rattle.rules.proofs.RangeLaws.{is_range, range_only}
 use Rattle.tally.specs.declared.Tally.{Tally}
 use Rattle.tally.specs.View.{view}
 use Rattle.tally.specs.Calls.{Sound}
-use Rattle.held_lists.specs.Places.{stored, Different, RangeRead}
-use Rattle.report.proofs.Sound.{figures_are, low_results}
+use Rattle.held_lists.specs.Places.{stored, RangeRead}
+use Rattle.report.proofs.Sound.{different, figures_are, low_results}
 use Rattle.history.specs.Walk.{Walked, EveryWalk}
 use Rattle.history.proofs.Agreement.{agrees}
 
@@ -25,10 +25,6 @@ walked : (g : Ledger) (r : Range) → largest (containers g) g.contents ≤ wide
 walked g r most h =
     let e = range_only (containers g) g.contents r _ h (is_range (containers g) g.contents most) in
     record { held = h; shown = omega (arith, ap (λ (s : Range). s.smallest) e, ap (λ (s : Range). s.largest) e) }
-
--- the places that count have containers of the lot, no two the same
-different : (t : Tally) → Sound t → Different t.lot.containers t.containers t.held
-different t s = record { apart = s.apart; above = s.above; inside = s.inside }
 
 -- the map is that of the results that count
 stored_counted : (ks vs : List ℕ) (m n : ℕ) → n ≤ m → stored ks (take m vs) n ≡ stored ks vs n

@@ -1,3 +1,2 @@
-pub mod FigureLaws
 pub mod Sound
 pub mod Reported

@@ -33,10 +33,11 @@ use Rattle.tally.specs.declared.Tally.{Tally}
 use Rattle.tally.specs.View.{view}
 use Rattle.tally.specs.Calls.{Sound}
 use Rattle.tally.proofs.Steps.{size_is_lem}
-use Rattle.findings.specs.Reportable.{in_order, reportable, found_of}
-use Rattle.findings.proofs.ReportableLaws.{count_in_order, reportable_enough}
+use Rattle.held_lists.specs.Places.{in_order}
+use Rattle.held_lists.proofs.InOrder.{count_in_order, figures_taken}
+use Rattle.findings.specs.Reportable.{reportable, found_of}
+use Rattle.findings.proofs.ReportableLaws.{reportable_enough}
 use Rattle.report.specs.Reports.{Reports}
-use Rattle.report.proofs.FigureLaws.{figures_taken}
 use Rattle.report.proofs.Sound.{walked, figures_are, sound_reportable}
 
 -- ---- the card's places past the last row do not matter

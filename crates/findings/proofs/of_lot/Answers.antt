@@ -3,7 +3,8 @@ use mathlib.Core.Path.{refl, sym, ap, ◌∙◌}
 use mathlib.Core.Bool.{true}
 use borrow.Author.Tests.{lt-leb}
 use Rattle.std.specs.Prelude.{Some}
-use Rattle.findings.proofs.ReportableLaws.{count_in_order, is_reportable, found_is}
+use Rattle.held_lists.proofs.InOrder.{count_in_order}
+use Rattle.findings.proofs.ReportableLaws.{is_reportable, found_is}
 use Rattle.findings.proofs.of_lot.Goals as goal
 
 pub returns-then-results-gt-MOST_HELD : goal.returns-then-results-gt-MOST_HELD
