@@ -19,8 +19,8 @@ pub fn figures_of(results: &[u16]) -> Figures
     let mut squares = 0;
     for &x in results {
         let y = u64::from(x);
-        sum = sum + u32::from(x);
-        squares = squares + y * y;
+        sum += u32::from(x);
+        squares += y * y;
     }
     Figures {
         count: range.read,
