@@ -1,5 +1,5 @@
 -- When figures are reported, and what is found then.
-use Rattle.std.specs.Prelude.{ℕ, ◌≤◌, Bool, ◌&&◌, leb, Option, Some, None}
+use Rattle.std.specs.Prelude.{ℕ, ◌*◌, ◌≤◌, Bool, ◌&&◌, leb, Option, Some, None}
 use Rattle.rules.specs.Choice.{pick}
 use Rattle.rules.specs.Limits.{least_reported, most_held, most_rows, highest_x, least_factor, most_factor, most_seeds}
 use Rattle.rules.specs.Report.{findings_of}
@@ -10,13 +10,22 @@ use Rattle.rules.specs.declared.Card.{Card}
 use Rattle.rules.specs.declared.Figures.{Figures}
 use Rattle.rules.specs.declared.Findings.{Findings}
 
--- There are enough results, and they and the card's F, n and rows keep to what an enter and an open accept. On those of a tally
--- made in some other way numbers on the way to H could wrap, so this is looked at first.
+-- these figures with S and Q as a tally keeps them
+abbrev pub with_sums : ℕ → ℕ → Figures → Figures
+with_sums s q f = record { count = f.count; sum = s; squares = q; smallest = f.smallest; largest = f.largest }
+
+-- S and Q may be those of N results that are not too high; as facts, Spread
+abbrev pub sums_within : Figures → Bool
+sums_within f = leb f.sum (highest_x * f.count) && (leb f.squares (highest_x * f.sum) && leb (f.sum * f.sum) (f.count * f.squares))
+
+-- There are enough results, and they, their sums and the card's F, n and rows keep to what an enter and an open accept. On those of a
+-- tally made in some other way numbers on the way to H could wrap, so this is looked at first.
 abbrev pub within_limits : Head → ℕ → Figures → Bool
 within_limits h rows f =
     leb least_reported f.count
     && (leb f.largest highest_x
-    && (leb least_factor h.factor && (leb h.factor most_factor && (leb h.seeds most_seeds && leb rows most_rows))))
+    && (sums_within f
+    && (leb least_factor h.factor && (leb h.factor most_factor && (leb h.seeds most_seeds && leb rows most_rows)))))
 
 -- the same, of no more results than a tally has room for
 abbrev pub reportable : Card → Figures → Bool

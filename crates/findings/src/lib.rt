@@ -10,7 +10,7 @@ ghost use Rattle.rules.specs.Report.{judgement_of, findings_of};
 ghost use Rattle.rounding.specs.Dividing.{Workable};
 ghost use Rattle.findings.specs.Values.{h_against, r_against};
 ghost use Rattle.held_lists.specs.Places.{in_order};
-ghost use Rattle.findings.specs.Reportable.{found_of, Served, IsReportable};
+ghost use Rattle.findings.specs.Reportable.{with_sums, found_of, Served, IsReportable};
 
 use rules::{
     Attribute, Card, Figures, Findings, Fraction, Judgement, MOST_HELD, Rounded, Side, Value,
@@ -117,14 +117,15 @@ fn of_figures(a: Attribute, c: Card, f: Figures) -> Findings
     }
 }
 
-// The findings from attribute, card and results. None: too few results, or what no open and no enter accept.
-pub fn of_lot(a: Attribute, c: Card, results: &[u16]) -> Option<Findings>
-    ensures { result ≡ found_of a c (figures_of (length results.now) (in_order results.now)) }
+// The findings from attribute, card, results and the sums that are kept of them. None: too few results, or what no open and no enter
+// accept.
+pub fn of_lot(a: Attribute, c: Card, results: &[u16], sum: u32, squares: u64) -> Option<Findings>
+    ensures { result ≡ found_of a c (with_sums sum squares (figures_of (length results.now) (in_order results.now))) }
 {
     if MOST_HELD < results.len() {
         return None;
     }
-    let f = figures::figures_of(results);
+    let f = figures::figures_of(results, sum, squares);
     if figures::are_within_limits(f, c.head, c.rows) {
         Some(of_figures(a, c, f))
     } else {

@@ -22,11 +22,7 @@ unfolding total
 count_in_order vs zero = refl
 count_in_order vs (suc n) = omega (arith, count_in_order vs n)
 
--- sums and ends with one result more
-pub total_turn : (w : Content → ℕ) (vs : List ℕ) (n : ℕ) → total w n (in_order vs) + w (holds (get_or vs n 0)) ≡ total w (n + 1) (in_order vs)
-unfolding total
-total_turn w vs n = rw (add-one n) refl
-
+-- an end with one result more
 pub smallest_turn : (vs : List ℕ) (n : ℕ) → min (smallest n (in_order vs)) (get_or vs n 0) ≡ smallest (n + 1) (in_order vs)
 unfolding smallest
 smallest_turn vs n = rw (add-one n) refl

@@ -13,7 +13,7 @@ use borrow.Author.Tests.{eq-eqb, ne_eqb, lt-ltb, le-ltb}
 use Rattle.rules.specs.Choice.{pick}
 use Rattle.rules.specs.Contents.{Content, Contents, free, holds, put, is_held, total, one, size}
 use Rattle.rules.proofs.Tests.{or_false}
-use Rattle.rules.proofs.ContentLaws.{put_other, put_self, put_put, put_comm, total_put, total_none}
+use Rattle.rules.proofs.ContentLaws.{put_same, put_other, put_self, put_put, put_comm, total_put, total_none}
 use Rattle.std.specs.Prelude.{Option, Some, None, MatchOption, HoldsAt}
 use Rattle.std.specs.List.{AllWithin}
 use Rattle.held_lists.specs.Places.{stored, Apart, Without, FoundAt, Found}
@@ -30,6 +30,17 @@ stored_free ks vs zero k h = refl
 stored_free ks vs (suc n) k h =
     put_other (stored ks vs n) (get_or ks n 0) (holds (get_or vs n 0)) k (λ e. h n (omega arith) (sym e))
     ∙ stored_free ks vs n k (λ i a. h i (omega arith))
+
+-- what a stored container holds
+pub stored_is : (ks vs : List ℕ) (n i : ℕ) → Apart ks n → i < n → stored ks vs n (get_or ks i 0) ≡ holds (get_or vs i 0)
+unfolding stored
+stored_is ks vs zero i h g = absurd (omega arith)
+stored_is ks vs (suc n) i h g = go (ℕ_discrete i n) (λ q. stored_is ks vs n i (fewer ks n h) q)
+  where
+    go : Dec (i ≡ n) → (i < n → stored ks vs n (get_or ks i 0) ≡ holds (get_or vs i 0)) → put (stored ks vs n) (get_or ks n 0) (holds (get_or vs n 0)) (get_or ks i 0) ≡ holds (get_or vs i 0)
+    go (yes q) r = rw q (put_same (stored ks vs n) (get_or ks n 0) (holds (get_or vs n 0)))
+    go (no q) r =
+        put_other (stored ks vs n) (get_or ks n 0) (holds (get_or vs n 0)) (get_or ks i 0) (λ e. q (h i n (omega arith) (omega arith) e)) ∙ r (omega arith)
 
 pub stored_held : (ks vs : List ℕ) (n k i : ℕ) → i < n → get_or ks i 0 ≡ k → is_held (stored ks vs n k) ≡ true
 unfolding stored

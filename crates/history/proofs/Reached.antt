@@ -28,7 +28,7 @@ use Rattle.tally.specs.declared.Tally.{Tally}
 use Rattle.tally.specs.View.{view}
 use Rattle.tally.specs.Calls.{Sound}
 use Rattle.tally.proofs.Steps.{size_is_lem}
-use Rattle.report.proofs.Sound.{figures_are, low_results}
+use Rattle.tally.proofs.Sums.{figures_are, low_results}
 use Rattle.reading_theorems.specs.Spelling.{Entry, Made, opens, enters}
 use Rattle.history.specs.Verdict.{attribute, quotient}
 

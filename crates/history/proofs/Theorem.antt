@@ -2,6 +2,7 @@
 use Prim.Native.Nat.{ℕ}
 use mathlib.Core.Path.{◌≡◌, sym, ap, ap₂, ◌∙◌}
 use mathlib.Core.List.{List}
+use Rattle.rules.specs.Figures.{figures}
 use Rattle.rules.specs.Report.{report_on}
 use Rattle.rules.specs.Writing.{write_on}
 use Rattle.rules.specs.ListReading.{list_on}
@@ -28,6 +29,8 @@ ends cs ns t r =
       judged = i.judged;
       count = (balanced cs).even;
       number = sym (size_is_lem t i.sound) ∙ ap held i.same;
+      sum = i.sound.sum ∙ ap (λ (g : Ledger). (figures g).sum) i.same;
+      squares = i.sound.squares ∙ ap (λ (g : Ledger). (figures g).squares) i.same;
       sound = i.sound;
     }
 

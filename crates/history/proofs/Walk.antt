@@ -16,7 +16,7 @@ use Rattle.tally.specs.declared.Tally.{Tally}
 use Rattle.tally.specs.View.{view}
 use Rattle.tally.specs.Calls.{Sound}
 use Rattle.held_lists.specs.Places.{stored, RangeRead}
-use Rattle.report.proofs.Sound.{different, figures_are, low_results}
+use Rattle.tally.proofs.Sums.{different, figures_are, low_results}
 use Rattle.history.specs.Walk.{Walked, EveryWalk}
 use Rattle.history.proofs.Agreement.{agrees}
 

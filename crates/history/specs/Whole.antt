@@ -4,6 +4,7 @@ use Rattle.std.specs.Prelude.{ℕ, ◌+◌, ◌≡◌, List, length, take, Resul
 use base.Fml.{Lft}
 use Rattle.std.specs.Borrow.{MutBor}
 use Rattle.rules.specs.Ledger.{held}
+use Rattle.rules.specs.Figures.{figures}
 use Rattle.tally.specs.declared.Tally.{Tally}
 use Rattle.tally.specs.View.{view}
 use Rattle.tally.specs.Calls.{Sound}
@@ -15,12 +16,14 @@ use Rattle.rules.specs.declared.Refusal.{Refusal}
 use Rattle.history.specs.Verdict.{ReportLines}
 
 -- What a list ends with: the tally has what the ledger has, the calls were answered with the ledger's numbers, a refused comma list
--- with its line too, and held is entered and joined less withdrawn.
+-- with its line too, held is entered and joined less withdrawn, and S and Q of the tally are those of the held results.
 pub record Ends (cs : Calls) (ns : List Answer) (t : Tally) : Type 0 where
   pub same : view t ≡ ledger cs
   pub judged : ns ≡ answers cs
   pub count : held (ledger cs) + (counts cs).withdrawn ≡ (counts cs).entered + (counts cs).joined
   pub number : t.held ≡ held (ledger cs)
+  pub sum : t.sum ≡ (figures (ledger cs)).sum
+  pub squares : t.squares ≡ (figures (ledger cs)).squares
   pub sound : Sound t
 
 pub record Whole : Type 0 where

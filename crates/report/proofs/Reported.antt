@@ -35,10 +35,10 @@ use Rattle.tally.specs.Calls.{Sound}
 use Rattle.tally.proofs.Steps.{size_is_lem}
 use Rattle.held_lists.specs.Places.{in_order}
 use Rattle.held_lists.proofs.InOrder.{count_in_order, figures_taken}
-use Rattle.findings.specs.Reportable.{reportable, found_of}
+use Rattle.findings.specs.Reportable.{with_sums, reportable, found_of}
 use Rattle.findings.proofs.ReportableLaws.{reportable_enough}
 use Rattle.report.specs.Reports.{Reports}
-use Rattle.report.proofs.Sound.{walked, figures_are, sound_reportable}
+use Rattle.report.proofs.Sound.{kept, kept_are, sound_reportable}
 
 -- ---- the card's places past the last row do not matter
 serves_cut : (c : Card) (k n : ℕ) (mean : Fraction) → k < c.rows → row_serves (cut_to_rows c) k n mean ≡ row_serves c k n mean
@@ -58,7 +58,7 @@ findings_cut a c f = simp (tolerated_cut c f.count (printed_mean a f) c.rows (le
 -- ---- what is found
 -- of the held results; nothing, where the list has not so many
 pub record Finds (t : Tally) (a : Attribute) (o : Option Findings) : Type 0 where
-  pub within : t.held ≤ length t.results → o ≡ found_of a t.card (walked t)
+  pub within : t.held ≤ length t.results → o ≡ found_of a t.card (kept t)
   pub past : length t.results < t.held → o ≡ None
 
 -- the places that count, where the list has so many
@@ -66,12 +66,12 @@ abbrev pub Front : Tally → Option (Bor (List ℕ)) → Type 0
 Front t g = MatchOption g (length t.results < t.held) (λ s. (t.held ≤ length t.results) × (s.now ≡ take t.held t.results))
 
 abbrev pub FoundOf : Tally → Attribute → Option (Bor (List ℕ)) → Option Findings → Type 0
-FoundOf t a g o = MatchOption g (o ≡ None) (λ s. o ≡ found_of a t.card (figures_of (length s.now) (in_order s.now)))
+FoundOf t a g o = MatchOption g (o ≡ None) (λ s. o ≡ found_of a t.card (with_sums t.sum t.squares (figures_of (length s.now) (in_order s.now))))
 
 pub finds : (t : Tally) (a : Attribute) (g : Option (Bor (List ℕ))) (o : Option Findings) → Front t g → FoundOf t a g o → Finds t a o
 finds t a None o h e = record { within = λ k. absurd (omega arith); past = λ k. e }
 finds t a (Some s) o h e =
-    record { within = λ k. e ∙ rw h.1 (ap (found_of a t.card) (figures_taken t.results t.held k)); past = λ k. absurd (omega arith) }
+    record { within = λ k. e ∙ rw h.1 (ap (λ (f : Figures). found_of a t.card (with_sums t.sum t.squares f)) (figures_taken t.results t.held k)); past = λ k. absurd (omega arith) }
 
 reportable_of : (b : Bool) (x s : Findings) → pick b (Some x) None ≡ Some s → (b ≡ true) × (x ≡ s)
 reportable_of true x s e = (refl, cc)
@@ -112,10 +112,10 @@ module _ (t : Tally) (a : Attribute) (o : Option Findings) (lot : a ≡ attribut
       → Reports t before r after
   written found before after r q l =
       let here = within (dec_le t.held (length t.results)) in
-      let w = reportable_of (reportable t.card (walked t)) (findings_of a t.card (walked t)) found (sym (e.within here) ∙ q) in
-      let enough = reportable_enough t.card (walked t) w.0 in
+      let w = reportable_of (reportable t.card (kept t)) (findings_of a t.card (kept t)) found (sym (e.within here) ∙ q) in
+      let enough = reportable_enough t.card (kept t) w.0 in
       let many : least_reported ≤ t.held = omega (arith, count_in_order t.results t.held) in
-      let text_is : Sound t → report_of (view t) ≡ findings_text found = λ s. rw (figures_are t s, findings_cut, ← lot, w.1) refl in
+      let text_is : Sound t → report_of (view t) ≡ findings_text found = λ s. rw (kept_are t s, findings_cut, ← lot, w.1) refl in
       record {
         right = λ s. l.0 ∙ sym (rw (text_is s, size_is_lem t s, le-ltb t.held least_reported many) refl);
         which = λ e k. inr (l.1 e k);

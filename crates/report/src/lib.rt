@@ -6,8 +6,9 @@ ghost use Rattle.report.specs.Reports.{Reports};
 use rules::{Attribute, Refusal};
 use tally::Tally;
 
-// Too few below five results, buffer short where the text does not fit, else the text and its length. On every tally that the calls
-// have made, nothing is found only where there are too few results; the other tests are for a tally made in some other way.
+// Too few below five results, buffer short where the text does not fit, else the text and its length. S and Q are the tally's. On every
+// tally that the calls have made, nothing is found only where there are too few results; the other tests are for a tally made in some
+// other way.
 pub fn report(t: Tally, buf: &mut [u8]) -> Result<usize, Refusal>
     ensures { Reports t buf.old result buf.new }
 {
@@ -15,7 +16,7 @@ pub fn report(t: Tally, buf: &mut [u8]) -> Result<usize, Refusal>
     let found = t
         .results
         .get(..t.held)
-        .and_then(|held| findings::of_lot(attribute, t.card, held))
+        .and_then(|held| findings::of_lot(attribute, t.card, held, t.sum, t.squares))
         .ok_or(Refusal::TooFew)?;
     report_lines::five_lines(buf, found)
 }

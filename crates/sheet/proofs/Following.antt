@@ -32,7 +32,7 @@ use Rattle.frames.specs.declared.FramedLine.{FramedLine}
 use Rattle.frames.specs.Promise.{LineAt}
 use Rattle.cutter.proofs.Lines.{lines_ended, lines_unended, lines_none}
 use Rattle.held_lists.specs.Places.{stored}
-use Rattle.tally.specs.Calls.{Opens, Sound}
+use Rattle.tally.specs.Calls.{Opens, Sound, fresh_tally}
 use Rattle.head_steps.specs.declared.Progress.{Progress}
 use Rattle.head_steps.specs.Promise.{state_of, is_result, HeadEnds, just_opened}
 use Rattle.result_steps.specs.Promise.{opened_state}
@@ -127,21 +127,27 @@ rest_none {s} {a} {n} starts end t b e = let q : n - 1 + 1 ≡ n = omega arith i
 pub unended : (s : Stage) → is_opened s ≡ false → is_ended s ≡ false
 unended = at_every_stage (λ s. is_opened s ≡ false → is_ended s ≡ false) (λ e. refl) (λ e. refl) (λ e. refl) (λ e. refl) (λ e. refl) (λ e. refl) (λ e. e)
 
+-- nothing is held
+abbrev pub Empty : Tally → Type 0
+Empty t = t ≡ tally_of t.lot t.card t.containers t.results 0 0 0
+
+-- with another lot and another card nothing is held either
+pub empty_still : (t : Tally) (l : Lot) (c : Card) → t ≡ fresh_tally → Empty (tally_of l c t.containers t.results t.held t.sum t.squares)
+empty_still t l c e = ap (λ (u : Tally). tally_of l c t.containers t.results u.held u.sum u.squares) e
+
 -- ---- the answer to the open, where the results begin
 module _ (s : List ℕ) (a n last : ℕ) {l : Lot} {c : Card} where
   pub open_refused : {e : Refusal} → Opens l c (Err e) → refused (number_of e) n ≡ read_opened s a l c last n
   open_refused {e} answer = rw (← answer.right, ne_eqb (number_of e) 0 (never_zero e)) refl
 
--- a tally that holds nothing, whose lot may be opened with its card
-module _ (t : Tally) (e : t.held ≡ 0) {u : ⊤} (answer : Opens t.lot t.card (Ok u)) where
+-- a tally that holds nothing, whose sums are 0 and whose lot may be opened with its card
+module _ (t : Tally) (e : Empty t) {u : ⊤} (answer : Opens t.lot t.card (Ok u)) where
   pub open_sound : length t.containers ≡ most_held → length t.results ≡ most_held → Sound t
-  open_sound k v = subst (λ (m : ℕ). Sound (tally_of t.lot t.card t.containers t.results m)) (sym e) (answer.sound refl t.containers t.results k v)
+  open_sound k v = subst Sound (sym e) (answer.sound refl t.containers t.results k v)
 
   pub open_accepted : (s : List ℕ) (a n last : ℕ) → read_rest s a (opened_state last stage.Result t) n ≡ read_opened s a t.lot t.card last n
   unfolding stored
-  open_accepted s a n last =
-      ap (λ (m : ℕ). read_rest s a (opened_state last stage.Result (tally_of t.lot t.card t.containers t.results m)) n) e
-      ∙ rw (← answer.right) refl
+  open_accepted s a n last = ap (λ (v : Tally). read_rest s a (opened_state last stage.Result v) n) e ∙ rw (← answer.right) refl
 
 -- ---- what `?` hands on is the fault that was given
 pub refused_as : (o : SheetOutcome) (r : Result Reading Fault) (f : Fault) → IsErrAnd r (λ g. g ≡ f) → FaultOf o f → ReadAs o r

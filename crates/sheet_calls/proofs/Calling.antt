@@ -33,13 +33,14 @@ module _ (o : SheetOutcome) (file : ℕ) (call : Ledger → Listed) (d : List �
   at_fault (Ok n) f h q = absurd h
   at_fault (Err g) f h q = rw (h, q.right, q.file) refl
 
-  module _ {t : Tally} {lines : ℕ} (reads : TallyOf o t lines) (u : Tally) where
-    -- the call's refusal
-    pub at_refusal : (r : Result ℕ Fault) (f : Fault) → IsErrAnd r (λ g. g ≡ f) → file_of f.place ≡ file → listed (Err f) (view u) ≡ call (view t) → on_sheet_answer r d ≡ call_on file o call d
-    at_refusal (Ok n) f h p q = absurd h
-    at_refusal (Err g) f h p q = rw (h, reads.right, ← q, p, ne_eqb (number_of f.refusal) 0 (never_zero f.refusal)) refl
+  module _ {t : Tally} {lines : ℕ} (reads : TallyOf o t lines) where
+    -- the call's refusal, whatever ledger is left
+    pub at_refusal : (after : Ledger) (r : Result ℕ Fault) (f : Fault) → IsErrAnd r (λ g. g ≡ f) → file_of f.place ≡ file → listed (Err f) after ≡ call (view t)
+        → on_sheet_answer r d ≡ call_on file o call d
+    at_refusal after (Ok n) f h p q = absurd h
+    at_refusal after (Err g) f h p q = rw (h, reads.right, ← q, p, ne_eqb (number_of f.refusal) 0 (never_zero f.refusal)) refl
 
-    module _ {a : ⊤} (q : listed (Ok a) (view u) ≡ call (view t)) (sound : Sound u) {b : List ℕ} where
+    module _ (u : Tally) {a : ⊤} (q : listed (Ok a) (view u) ≡ call (view t)) (sound : Sound u) {b : List ℕ} where
       -- the writer's refusal
       pub at_unwritten : (r : Result ℕ Fault) {e : Refusal} → IsErrAnd r (λ g. g ≡ in_call e) → Wrote u d b (Err e) → on_sheet_answer r b ≡ call_on file o call d
       at_unwritten (Ok n) h w = absurd h

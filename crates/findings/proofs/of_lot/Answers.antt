@@ -13,9 +13,9 @@ returns-then-results-gt-MOST_HELD c = rw (count_in_order _ _, lt-leb _ _ c.if-re
 pub of_figures-requires : goal.of_figures-requires
 of_figures-requires c =
     let within = sym c.are_within_limits.ensures ∙ c.if-are_within_limits.true in
-    is_reportable _ _ _ c.figures_of-f.ensures _ c.if-results-gt-MOST_HELD.false within
+    is_reportable _ _ _ _ _ c.figures_of-f.ensures _ c.if-results-gt-MOST_HELD.false within
 
 pub returns-then-are_within_limits : goal.returns-then-are_within_limits
 returns-then-are_within_limits c =
     let within = sym c.are_within_limits.ensures ∙ c.if-are_within_limits.true in
-    ap Some c.of_figures.ensures ∙ found_is _ _ _ c.figures_of-f.ensures _ c.if-results-gt-MOST_HELD.false _ true within
+    ap Some c.of_figures.ensures ∙ found_is _ _ _ _ _ c.figures_of-f.ensures _ c.if-results-gt-MOST_HELD.false _ true within

@@ -4,7 +4,7 @@ use Rattle.rules.specs.Reading.{read_of}
 use Rattle.tally.specs.declared.Tally.{Tally}
 use Rattle.tally.specs.Calls.{fresh_tally}
 use Rattle.sheet.specs.Promise.{read_with}
-use Rattle.sheet.proofs.Following.{refused_as, fault_as, open_refused, open_sound, open_accepted}
+use Rattle.sheet.proofs.Following.{refused_as, fault_as, empty_still, open_refused, open_sound, open_accepted}
 use Rattle.sheet.proofs.read.Goals as goal
 
 -- a sheet is read from its start with the card of the fresh tally
@@ -22,7 +22,7 @@ returns-in-Err c =
 pub returns-in_err-lines : goal.returns-in_err-lines
 returns-in_err-lines c =
     let begun = c.in_ok-begin.ensures.right in
-    let none : c.fresh-tally.result.held ≡ 0 = ap (λ (t : Tally). t.held) c.fresh-tally.ensures in
+    let none = empty_still _ _ _ c.fresh-tally.ensures in
     let end = c.in_err-lines.ensures c.in_ok-begin.begin.head.last (open_sound _ none c.in_default.ensures (search rules) (search rules)) in
     refused_as _ _ _ c.from_residual-in_err-lines.ensures.1
     (fault_as (start _ _ c.fresh-tally.ensures ∙ (begun ∙ sym (open_accepted _ none c.in_default.ensures _ _ _ _))) end)
@@ -30,7 +30,7 @@ returns-in_err-lines c =
 pub returns : goal.returns
 returns c =
     let begun = c.in_ok-begin.ensures.right in
-    let none : c.fresh-tally.result.held ≡ 0 = ap (λ (t : Tally). t.held) c.fresh-tally.ensures in
+    let none = empty_still _ _ _ c.fresh-tally.ensures in
     let end = c.in_ok-lines.ensures c.in_ok-begin.begin.head.last (open_sound _ none c.in_default.ensures (search rules) (search rules)) in
     record {
       right = start _ _ c.fresh-tally.ensures ∙ (begun ∙ (sym (open_accepted _ none c.in_default.ensures _ _ _ _) ∙ end.right));

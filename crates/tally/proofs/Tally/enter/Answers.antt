@@ -10,4 +10,6 @@ returns-in_err-check_enter c =
     rw (passed_on c.from_residual.ensures.1) (enters_not _ _ _ (Err _) c.in_err-check_enter.ensures (never_zero _))
 
 pub returns : goal.returns
-returns c = enters _ _ _ (Ok tt) c.in_ok-check_enter.ensures refl
+returns c =
+    rw (c.saturating_add-self.ensures, c.from.ensures, c.saturating_add-self-2.ensures, c.squared.ensures)
+    (enters _ _ _ (Ok tt) c.in_ok-check_enter.ensures refl)

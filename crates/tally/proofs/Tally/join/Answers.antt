@@ -13,4 +13,4 @@ returns c =
     let t = c.args.self.now in
     let o = c.args.other.now in
     let all : t.held + o.held - t.held ≡ o.held = omega arith in
-    joined t o c.in_ok-check_join.ensures _ (rw (all, c.copy_from_slice.ensures.after, c.copy_from_slice-2.ensures.after) refl)
+    joined t o c.in_ok-check_join.ensures _ (rw (all, c.copy_from_slice.ensures.after, c.copy_from_slice-2.ensures.after, c.saturating_add-self.ensures, c.saturating_add-self-2.ensures) refl)

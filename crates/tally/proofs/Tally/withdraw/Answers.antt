@@ -12,5 +12,6 @@ pub returns : goal.returns
 returns c =
     let look = c.held_containers.ensures in
     let found = c.in-Some.ensures in
-    withdraws c.args.self.now c.args.container c.in-Some.at (found_in c.args.self.now c.held_containers.result.now look.0 look.1 c.args.container c.in-Some.at found.1)
-    c.min-n.result c.min-n.ensures (omega (arith, found.0, look.1, c.min-n.ensures))
+    rw (c.saturating_sub-self.ensures, c.from.ensures, c.saturating_sub-self-2.ensures, c.squared.ensures)
+    (withdraws c.args.self.now c.args.container c.in-Some.at (found_in c.args.self.now c.held_containers.result.now look.0 look.1 c.args.container c.in-Some.at found.1)
+    c.min-n.result c.min-n.ensures (omega (arith, found.0, look.1, c.min-n.ensures)))
