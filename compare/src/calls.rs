@@ -14,18 +14,19 @@
 //! | 7    | write    | the length of the lent buffer (2) |
 //! | 8    | list     | the length of a comma list (2), its bytes |
 //! | 9    | writelist | the length of the lent buffer (2) |
+//! | 10   | sums     | the length of the lent buffer (2) |
 //!
 //! Each call is answered by one byte, 0 or the refusal's number. For a comma list two bytes follow, the
-//! line that is refused (0 where none is). For a report, a write or a writelist two bytes follow, the text's
+//! line that is refused (0 where none is). For a report, a write, a writelist or sums two bytes follow, the text's
 //! length (0 where refused), and then the lent buffer itself, which is that part of the answers' own
-//! buffer. The list ends at its last byte, at bytes that are no whole call, or where the answers' buffer
+//! buffer. Sums have no text but 12 bytes, S (4) and Q (8) as the tally keeps them. The list ends at its last byte, at bytes that are no whole call, or where the answers' buffer
 //! has no room for the next answer. The number of bytes answered is given.
 
 use crate::card::{Card, Lot, MOST_ROWS, Row};
 use crate::refusal::{Fault, Refusal};
-use crate::tally::Tally;
+use crate::tally::{Sums, Tally};
 use crate::weights::Weighing;
-use crate::{comma, report, sheet};
+use crate::{buffer, comma, report, sheet};
 
 /// One call; the tallies are named by their number.
 #[derive(Clone, Debug, PartialEq, Eq)]
@@ -39,6 +40,7 @@ pub enum Call {
     Write { on: usize, room: u16 },
     List { on: usize, lines: Vec<u8> },
     WriteList { on: usize, room: u16 },
+    Sums { on: usize, room: u16 },
 }
 
 /// What a call answers.
@@ -121,6 +123,10 @@ impl Call {
                 list.extend([9, *on as u8]);
                 list.extend(room.to_be_bytes());
             }
+            Self::Sums { on, room } => {
+                list.extend([10, *on as u8]);
+                list.extend(room.to_be_bytes());
+            }
         }
     }
 
@@ -145,6 +151,7 @@ impl Call {
             7 => Self::Write { on, room: list.number()? },
             8 => Self::List { on, lines: list.counted()? },
             9 => Self::WriteList { on, room: list.number()? },
+            10 => Self::Sums { on, room: list.number()? },
             _ => return None,
         })
     }
@@ -160,15 +167,17 @@ impl Call {
             Self::Write { .. } => "write",
             Self::List { .. } => "list",
             Self::WriteList { .. } => "writelist",
+            Self::Sums { .. } => "sums",
         }
     }
 
     /// The length of the buffer that the call lends, where it lends one.
     pub fn room(&self) -> Option<usize> {
         match self {
-            Self::Report { room, .. } | Self::Write { room, .. } | Self::WriteList { room, .. } => {
-                Some((*room).into())
-            }
+            Self::Report { room, .. }
+            | Self::Write { room, .. }
+            | Self::WriteList { room, .. }
+            | Self::Sums { room, .. } => Some((*room).into()),
             _ => None,
         }
     }
@@ -197,8 +206,18 @@ impl Call {
             Self::Write { on, .. } => sheet::write(&tallies[*on], buf).into(),
             Self::List { on, lines } => comma::enter(&mut tallies[*on], lines).into(),
             Self::WriteList { on, .. } => comma::write(&tallies[*on], buf).into(),
+            Self::Sums { on, .. } => buffer::lay(&sums_bytes(&tallies[*on]), buf).into(),
         }
     }
+}
+
+/// S in four bytes and Q in eight.
+fn sums_bytes(tally: &Tally) -> [u8; 12] {
+    let Sums { sum, squares } = tally.sums();
+    let mut bytes = [0; 12];
+    bytes[..4].copy_from_slice(&(sum as u32).to_be_bytes());
+    bytes[4..].copy_from_slice(&squares.to_be_bytes());
+    bytes
 }
 
 fn decode_open(list: &mut Bytes) -> Option<(Lot, Box<Card>)> {
@@ -320,10 +339,11 @@ mod tests {
             Call::List { on: 1, lines: vec![b'7'; 300] },
             Call::List { on: 0, lines: Vec::new() },
             Call::WriteList { on: 0, room: 780 },
+            Call::Sums { on: 1, room: 12 },
         ];
         let mut list = Vec::new();
         calls.iter().for_each(|call| call.encode(&mut list));
-        assert_eq!(list.len(), 2 + 1_024 + 6 + 4 + 8 + 14 + 8 + 304 + 4 + 4);
+        assert_eq!(list.len(), 2 + 1_024 + 6 + 4 + 8 + 14 + 8 + 304 + 4 + 4 + 4);
         let mut bytes = Bytes(&list);
         for call in calls {
             assert_eq!(Call::decode(&mut bytes), Some(call));
@@ -347,6 +367,29 @@ mod tests {
         let mut short = [b'.'; 36];
         assert_eq!(run(&list, &mut short), 36);
         assert_eq!(short, buf[..36]);
+    }
+
+    #[test]
+    fn the_sums_are_twelve_bytes() {
+        let calls = [
+            Call::Open { on: 1, lot: Lot { attribute: 2, containers: 9 }, card: card() },
+            Call::Enter { on: 1, container: 9, x: 300 },
+            Call::Enter { on: 1, container: 1, x: 2 },
+            Call::Sums { on: 1, room: 13 },
+            Call::Sums { on: 0, room: 12 },
+            Call::Sums { on: 1, room: 11 },
+        ];
+        let mut bytes = Vec::new();
+        calls.iter().for_each(|call| call.encode(&mut bytes));
+        let mut buf = [b'.'; 48];
+        assert_eq!(run(&bytes, &mut buf), 48);
+        let expected: [&[u8]; 4] = [
+            b"\0\0\0",
+            b"\0\0\x0c\0\0\x01\x2e\0\0\0\0\0\x01\x5f\x94.",
+            b"\0\0\x0c\0\0\0\0\0\0\0\0\0\0\0\0",
+            b"\x10\0\0...........",
+        ];
+        assert_eq!(buf[..], expected.concat());
     }
 
     #[test]

@@ -124,7 +124,8 @@ fn words(call: &Call) -> String {
         Call::Join { on, .. }
         | Call::Report { on, .. }
         | Call::Write { on, .. }
-        | Call::WriteList { on, .. } => writeln!(line, " {}", on + 1),
+        | Call::WriteList { on, .. }
+        | Call::Sums { on, .. } => writeln!(line, " {}", on + 1),
     };
     result.expect("a string takes all that is written");
     line
@@ -140,6 +141,7 @@ fn written(call: &Call, tallies: &mut [Tally; 2]) -> String {
             String::from_utf8_lossy(&buf[..behind]).into_owned()
         }
         Call::Report { .. } | Call::Write { .. } | Call::WriteList { .. } => format!("REFUSED {number}\n"),
+        Call::Sums { .. } => unreachable!("the program has no such call, and no list for it has one"),
         Call::List { on, .. } => format!("{number} {behind} held {}\n", tallies[*on].held().len()),
         Call::Open { on, .. }
         | Call::Enter { on, .. }

@@ -6,7 +6,7 @@ use std::fmt::{self, Write as _};
 use crate::buffer;
 use crate::card::{Attribute, Card, Row};
 use crate::refusal::Refusal;
-use crate::tally::{Held, Tally};
+use crate::tally::{Sums, Tally};
 
 /// Fewest results that a report is made from.
 pub const FEWEST_REPORTED: usize = 5;
@@ -24,12 +24,13 @@ struct Figures {
 }
 
 impl Figures {
-    fn of(held: &[Held]) -> Self {
-        let xs = || held.iter().map(|held| u64::from(held.x));
+    fn of(tally: &Tally) -> Self {
+        let xs = || tally.held().iter().map(|held| u64::from(held.x));
+        let Sums { sum, squares } = tally.sums();
         Self {
-            held: held.len() as u64,
-            sum: xs().sum(),
-            squares: xs().map(|x| x * x).sum(),
+            held: tally.held().len() as u64,
+            sum,
+            squares,
             smallest: xs().min().unwrap_or(0),
             largest: xs().max().unwrap_or(0),
         }
@@ -122,7 +123,7 @@ pub fn mark(exact: Ordering) -> char {
 /// Attribute and figures of a tally that holds enough for a report.
 fn reported(tally: &Tally) -> Option<(Attribute, Figures)> {
     let attribute = Attribute::of(tally.lot().attribute)?;
-    (tally.held().len() >= FEWEST_REPORTED).then(|| (attribute, Figures::of(tally.held())))
+    (tally.held().len() >= FEWEST_REPORTED).then(|| (attribute, Figures::of(tally)))
 }
 
 /// The same of a tally that is not void either, so that H and R are worked out.

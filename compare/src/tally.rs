@@ -21,6 +21,31 @@ pub struct Tally {
     card: Card,
     /// In ascending order of container, each once.
     held: Vec<Held>,
+    sums: Sums,
+}
+
+/// S and Q of what is held: the sum of X, and the sum of the squares of X.
+#[derive(Clone, Copy, Debug, Default, PartialEq, Eq)]
+pub struct Sums {
+    pub sum: u64,
+    pub squares: u64,
+}
+
+impl Sums {
+    fn of_one(x: u16) -> Self {
+        let x = u64::from(x);
+        Self { sum: x, squares: x * x }
+    }
+
+    fn add(&mut self, more: Self) {
+        self.sum += more.sum;
+        self.squares += more.squares;
+    }
+
+    fn subtract(&mut self, less: Self) {
+        self.sum -= less.sum;
+        self.squares -= less.squares;
+    }
 }
 
 impl Tally {
@@ -42,6 +67,11 @@ impl Tally {
         &self.held
     }
 
+    /// S and Q of the results.
+    pub fn sums(&self) -> Sums {
+        self.sums
+    }
+
     /// Replaces lot, card and map; answers 3, 4 or 5.
     pub fn open(&mut self, lot: &Lot, card: &Card) -> Result<(), Refusal> {
         let attribute = lot.check()?;
@@ -49,6 +79,7 @@ impl Tally {
         self.lot = *lot;
         self.card = *card;
         self.held.clear();
+        self.sums = Sums::default();
         Ok(())
     }
 
@@ -59,7 +90,7 @@ impl Tally {
             return Err(Refusal::ResultTooHigh);
         }
         let place = self.free_place(container)?;
-        self.held.insert(place, Held { container, x });
+        self.hold(place, container, x);
         Ok(())
     }
 
@@ -73,10 +104,10 @@ impl Tally {
 
     /// Makes several enters, all or none: where they end in a refusal, what is held is as before them.
     pub fn together<E>(&mut self, enters: impl FnOnce(&mut Self) -> Result<(), E>) -> Result<(), E> {
-        let before = self.held.clone();
+        let before = (self.held.clone(), self.sums);
         let answer = enters(self);
         if answer.is_err() {
-            self.held = before;
+            (self.held, self.sums) = before;
         }
         answer
     }
@@ -89,15 +120,15 @@ impl Tally {
         }
         self.check_container(container)?;
         let place = self.free_place(container)?;
-        let x = weighing.x()?;
-        self.held.insert(place, Held { container, x });
+        self.hold(place, container, weighing.x()?);
         Ok(())
     }
 
     /// Removes a result; answers 10 alone.
     pub fn withdraw(&mut self, container: u16) -> Result<(), Refusal> {
         let place = self.find(container).map_err(|_| Refusal::NotHeld)?;
-        self.held.remove(place);
+        let gone = self.held.remove(place);
+        self.sums.subtract(Sums::of_one(gone.x));
         Ok(())
     }
 
@@ -114,7 +145,13 @@ impl Tally {
         }
         self.held.extend_from_slice(&other.held);
         self.held.sort_unstable_by_key(|held| held.container);
+        self.sums.add(other.sums);
         Ok(())
+    }
+
+    fn hold(&mut self, place: usize, container: u16, x: u16) {
+        self.held.insert(place, Held { container, x });
+        self.sums.add(Sums::of_one(x));
     }
 
     /// 6 where the lot has no such container.
@@ -222,5 +259,38 @@ mod tests {
         assert_eq!(left.held().len(), 60);
         let same = left.clone();
         assert_eq!(left.join(&same), Err(Refusal::SharedContainer));
+    }
+
+    #[test]
+    fn the_sums_are_those_of_what_is_held() {
+        let sums = |sum, squares| Sums { sum, squares };
+        let mut tally = opened(60);
+        assert_eq!(tally.sums(), sums(0, 0));
+        for (container, x) in [(1, 3), (2, 10_000), (3, 0)] {
+            tally.enter(container, x).unwrap();
+        }
+        assert_eq!(tally.sums(), sums(10_003, 100_000_009));
+        tally.enter(2, 5).unwrap_err();
+        tally.withdraw(9).unwrap_err();
+        let listed = tally.together(|tally| {
+            tally.enter(8, 7).unwrap();
+            tally.enter(8, 7)
+        });
+        assert_eq!(listed, Err(Refusal::AlreadyHeld));
+        assert_eq!(tally.sums(), sums(10_003, 100_000_009));
+        tally.withdraw(1).unwrap();
+        assert_eq!(tally.sums(), sums(10_000, 100_000_000));
+        let mut other = opened(60);
+        other.enter(1, 2).unwrap();
+        other.enter(60, 4).unwrap();
+        tally.join(&other).unwrap();
+        assert_eq!(tally.sums(), sums(10_006, 100_000_020));
+        assert_eq!(other.sums(), sums(6, 20));
+        tally.join(&other).unwrap_err();
+        assert_eq!(tally.sums(), sums(10_006, 100_000_020));
+        tally.open(&lot(0), &card()).unwrap_err();
+        assert_eq!(tally.sums(), sums(10_006, 100_000_020));
+        tally.open(&lot(5), &card()).unwrap();
+        assert_eq!(tally, opened(5));
     }
 }

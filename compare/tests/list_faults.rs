@@ -389,7 +389,7 @@ const RESULTS: [(&str, Fault); 4] = [
 ];
 
 /// Lists entered into a tally and written from one.
-const TALLIES: [(&str, Fault); 10] = [
+const TALLIES: [(&str, Fault); 12] = [
     (
         "first lines kept on a refusal",
         Fault::Make(|call, tallies, buf| match call {
@@ -475,6 +475,28 @@ const TALLIES: [(&str, Fault); 10] = [
                 *behind = 0;
             }
             answer
+        }),
+    ),
+    (
+        "a sum of squares given as S",
+        Fault::Make(|call, tallies, buf| {
+            let answer = call.make(tallies, buf);
+            if let Call::Sums { .. } = call {
+                buf.copy_within(8.., 0);
+            }
+            answer
+        }),
+    ),
+    (
+        "sums of one result too few",
+        Fault::Make(|call, tallies, buf| match call {
+            Call::Sums { on, .. } => {
+                let mut fewer = tallies[*on].clone();
+                let last = fewer.held().last().map_or(0, |held| held.container);
+                let _ = fewer.withdraw(last);
+                call.make(&mut [fewer.clone(), fewer], buf)
+            }
+            _ => call.make(tallies, buf),
         }),
     ),
     (

@@ -151,6 +151,7 @@ fn list_lines(prng: &mut Prng, balance: &mut Prng) {
         single_lines(&plan, balance);
         several_lines(&plan);
         text_lines(&plan);
+        sampled_line(&plan);
     }
 }
 
@@ -196,6 +197,18 @@ fn text_lines(plan: &Plan) {
         let written = [entered.clone(), vec![call; 100]].concat();
         call_line(&name, 100, &entered, &written);
     }
+}
+
+/// A result entered and a report drawn, as after each sample: the last result that the plan holds, each time on a
+/// tally just opened, into which those before it are joined.
+fn sampled_line(plan: &Plan) {
+    let held = plan.results.len();
+    let (last, before) = plan.results.split_last().expect("the plan has results");
+    let other = [open(1, plan), enters(1, before)].concat();
+    let joined = [open(0, plan), vec![Call::Join { on: 0, other: 1 }]].concat();
+    let sampled = [joined.clone(), vec![last.call(0), Call::Report { on: 0, room: 100 }]].concat();
+    let again = |calls: Vec<Call>| [other.clone(), vec![calls; 100].concat()].concat();
+    call_line(&format!("sample   the {held}th entered, and a report"), 100, &again(joined), &again(sampled));
 }
 
 fn open(on: usize, plan: &Plan) -> Vec<Call> {

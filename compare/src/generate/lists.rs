@@ -29,8 +29,8 @@ pub struct List {
 pub enum Form {
     /// Any.
     Any,
-    /// At most one critical value, all 96 places alike, no join of a tally with itself, and comma lists of words:
-    /// what one line of text can say.
+    /// At most one critical value, all 96 places alike, no join of a tally with itself, comma lists of words, and no
+    /// sums: what one line of text can say.
     Text,
 }
 
@@ -65,6 +65,7 @@ pub fn list(prng: &mut Prng, form: Form) -> List {
         followed.make(Call::Write { on, room: LONGEST_WRITTEN as u16 });
         followed.make(Call::WriteList { on, room: comma::LONGEST_WRITTEN as u16 });
         followed.make(Call::Report { on, room: 100 });
+        followed.sums(on);
     }
     followed.list
 }
@@ -242,6 +243,14 @@ impl Followed<'_> {
         let length = report::text(&self.tallies[on]).map_or(0, |text| text.len());
         let room = self.room_for(length);
         self.make(Call::Report { on, room });
+        self.sums(on);
+    }
+
+    /// The sums, which a line of text cannot ask for.
+    fn sums(&mut self, on: usize) {
+        if self.form == Form::Any {
+            self.make(Call::Sums { on, room: 12 });
+        }
     }
 
     fn write(&mut self, on: usize) {

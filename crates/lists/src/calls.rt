@@ -6,12 +6,13 @@ use rules::Pans;
 // The bytes of an open behind its first two.
 pub const OPENING: usize = 1024;
 
-// A text that is written of a tally.
+// What is written of a tally: a text, or its two sums.
 #[derive(Clone, Copy)]
 pub enum Text {
     Report,
     Sheet,
     List,
+    Sums,
 }
 
 // What is called on a tally: a join joins the tally itself or the other one into it, and `room` bytes are lent for a text.
@@ -136,6 +137,7 @@ impl<'a> Bytes<'a> {
                 lines: self.counted()?,
             }),
             9 => self.write(Text::List),
+            10 => self.write(Text::Sums),
             _ => None,
         }
     }

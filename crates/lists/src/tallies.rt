@@ -15,12 +15,26 @@ fn opened(t: &mut Tally, bytes: &[u8; OPENING]) -> Result<(), Refusal> {
     t.open(opening.lot(), opening.card())
 }
 
+// S in four bytes and Q in eight.
+fn sums(t: &Tally, lent: &mut [u8]) -> Result<usize, Refusal> {
+    let (sum, behind) = lent
+        .split_first_chunk_mut::<4>()
+        .ok_or(Refusal::BufferShort)?;
+    let (squares, _) = behind
+        .split_first_chunk_mut::<8>()
+        .ok_or(Refusal::BufferShort)?;
+    *sum = t.sum.to_be_bytes();
+    *squares = t.squares.to_be_bytes();
+    Ok(12)
+}
+
 #[inline(never)]
 fn written(t: &Tally, text: Text, lent: &mut [u8]) -> Result<usize, Refusal> {
     match text {
         Text::Report => report::report(*t, lent),
         Text::Sheet => writer::write(*t, lent),
         Text::List => list_writer::write_list(*t, lent),
+        Text::Sums => sums(t, lent),
     }
 }
 
