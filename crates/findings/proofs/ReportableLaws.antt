@@ -30,7 +30,7 @@ le_and : (a b : ℕ) (q : Bool) → leb a b && q ≡ true → (a ≤ b) × (q �
 le_and a b q e = (leb-true a b (and_left (leb a b) q e), and_right (leb a b) q e)
 
 -- ---- the test of the two sums
-pub sums_are : (f : Figures) → sums_within f ≡ true → Spread highest_x f
+sums_are : (f : Figures) → sums_within f ≡ true → Spread highest_x f
 sums_are f w =
     let sum = le_and f.sum (highest_x * f.count) _ w in
     let squares = le_and f.squares (highest_x * f.sum) _ sum.1 in
@@ -50,9 +50,8 @@ module _ (vs : List ℕ) (n s q : ℕ) (f : Figures) (e : f ≡ with_sums s q (f
     pub is_reportable : within_limits c.head c.rows f ≡ true → IsReportable c f
     is_reportable w =
         let enough = le_and least_reported f.count _ w in
-        let low = le_and f.largest highest_x _ enough.1 in
-        let sums = and_left (sums_within f) _ low.1 in
-        let factor = le_and least_factor c.head.factor _ (and_right (sums_within f) _ low.1) in
+        let sums = and_left (sums_within f) _ enough.1 in
+        let factor = le_and least_factor c.head.factor _ (and_right (sums_within f) _ enough.1) in
         let factor_high = le_and c.head.factor most_factor _ factor.1 in
         let seeds = le_and c.head.seeds most_seeds _ factor_high.1 in
         let some : 1 ≤ n = omega (arith, count_is) in

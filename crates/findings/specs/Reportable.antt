@@ -14,18 +14,17 @@ use Rattle.rules.specs.declared.Findings.{Findings}
 abbrev pub with_sums : ℕ → ℕ → Figures → Figures
 with_sums s q f = record { count = f.count; sum = s; squares = q; smallest = f.smallest; largest = f.largest }
 
--- S and Q may be those of N results that are not too high; as facts, Spread
+-- what S and Q of N results that are not too high always keep to: `Spread`, as tests
 abbrev pub sums_within : Figures → Bool
 sums_within f = leb f.sum (highest_x * f.count) && (leb f.squares (highest_x * f.sum) && leb (f.sum * f.sum) (f.count * f.squares))
 
--- There are enough results, and they, their sums and the card's F, n and rows keep to what an enter and an open accept. On those of a
--- tally made in some other way numbers on the way to H could wrap, so this is looked at first.
+-- There are enough results, their sums keep to this, and the card's F, n and rows to what an open accepts. On those of a tally made in
+-- some other way numbers on the way to H could wrap, so this is looked at first.
 abbrev pub within_limits : Head → ℕ → Figures → Bool
 within_limits h rows f =
     leb least_reported f.count
-    && (leb f.largest highest_x
     && (sums_within f
-    && (leb least_factor h.factor && (leb h.factor most_factor && (leb h.seeds most_seeds && leb rows most_rows)))))
+    && (leb least_factor h.factor && (leb h.factor most_factor && (leb h.seeds most_seeds && leb rows most_rows))))
 
 -- the same, of no more results than a tally has room for
 abbrev pub reportable : Card → Figures → Bool
@@ -40,7 +39,7 @@ found_of a c f = pick (reportable c f) (Some (findings_of a c f)) None
 abbrev pub most_served : ℕ
 most_served = 200
 
--- the figures of enough results, none too high
+-- the figures of enough results, whose sums keep to Spread
 pub record Served (f : Figures) : Type 0 where
   pub enough : least_reported ≤ f.count
   pub few : f.count ≤ most_served

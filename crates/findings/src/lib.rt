@@ -117,8 +117,8 @@ fn of_figures(a: Attribute, c: Card, f: Figures) -> Findings
     }
 }
 
-// The findings from attribute, card, results and the sums that are kept of them. None: too few results, or what no open and no enter
-// accept.
+// The findings from attribute, card, results and the sums that are kept of them. None: too few or too many results, sums past what so
+// many results have, or a card that no open accepts.
 pub fn of_lot(a: Attribute, c: Card, results: &[u16], sum: u32, squares: u64) -> Option<Findings>
     ensures { result ≡ found_of a c (with_sums sum squares (figures_of (length results.now) (in_order results.now))) }
 {

@@ -1,12 +1,11 @@
--- A sound tally: the figures that a report is made from are those of the map that its results stand for, and the tests of card, results
--- and sums pass. Assumes nothing.
+-- A sound tally: the figures that a report is made from are those of the map that its results stand for, and the tests of results, sums
+-- and card pass. Assumes nothing.
 use Prim.Native.Nat.{◌≤◌}
 use native.Mathlib.Omega.{arith}
 use mathlib.Core.Path.{◌≡◌, sym, ◌∙◌, subst}
 use mathlib.Core.Bool.{true}
 use borrow.Author.Tests.{le-leb}
 use Rattle.rules.specs.Limits.{least_reported, highest_x, most_held, most_rows, least_factor, most_factor, most_seeds}
-use Rattle.rules.specs.Contents.{largest}
 use Rattle.rules.specs.Figures.{figures}
 use Rattle.rules.specs.Spread.{Spread}
 use Rattle.rules.specs.declared.Figures.{Figures}
@@ -37,14 +36,12 @@ pub sound_reportable : (t : Tally) → Sound t → least_reported ≤ t.held →
 sound_reportable t s h =
     let c = t.card in
     let n = t.held in
-    let vs = t.results in
     let k = opened_head t.lot c (s.good (omega (arith, s.above 0 (omega arith), s.inside 0 (omega arith)))) in
     rw (
       sums_within_of (kept t) (kept_spread t s),
-      count_in_order vs n,
+      count_in_order t.results n,
       le-leb n most_held s.small,
       le-leb least_reported n h,
-      le-leb (largest n (in_order vs)) highest_x (low_results t s),
       le-leb least_factor c.head.factor k.factor,
       le-leb c.head.factor most_factor k.factor_high,
       le-leb c.head.seeds most_seeds k.seeds,
