@@ -7,7 +7,7 @@ use mathlib.Core.List.{List}
 use lib.ListN.{length, take, get_or}
 use lib.Seq.{get_or-take, length-take-le}
 use Rattle.rules.specs.Limits.{widest}
-use Rattle.rules.specs.Contents.{Content, holds, total, one, smallest, largest}
+use Rattle.rules.specs.Contents.{total, one, smallest, largest}
 use Rattle.rules.specs.Figures.{figures_of}
 use Rattle.rules.specs.Range.{IsRange}
 use Rattle.rules.specs.declared.Figures.{Figures}

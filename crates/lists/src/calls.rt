@@ -8,14 +8,14 @@ pub const OPENING: usize = 1024;
 
 // What is written of a tally: a text, or its two sums.
 #[derive(Clone, Copy)]
-pub enum Text {
+pub enum Written {
     Report,
     Sheet,
     List,
     Sums,
 }
 
-// What is called on a tally: a join joins the tally itself or the other one into it, and `room` bytes are lent for a text.
+// What is called on a tally: a join joins the tally itself or the other one into it, and `room` bytes are lent for what is written.
 #[derive(Clone, Copy)]
 pub enum Call<'a> {
     Open(&'a [u8; OPENING]),
@@ -38,7 +38,7 @@ pub enum Call<'a> {
         lines: &'a [u8],
     },
     Write {
-        text: Text,
+        what: Written,
         room: u16,
     },
 }
@@ -51,7 +51,7 @@ pub struct Named<'a> {
 }
 
 impl Named<'_> {
-    // The bytes of its answer: a number, to a comma list also the two bytes of a line, to a text the two of its length and those lent.
+    // The bytes of its answer: a number, to a comma list also the two bytes of a line, to what is written the two of its length and those lent.
     pub fn answer_width(&self) -> usize
         ensures { (1 ≤ result) × (result ≤ 65538) }
     {
@@ -115,9 +115,9 @@ impl<'a> Bytes<'a> {
         })
     }
 
-    fn write(&mut self, text: Text) -> Option<Call<'a>> {
+    fn write(&mut self, what: Written) -> Option<Call<'a>> {
         Some(Call::Write {
-            text,
+            what,
             room: self.number()?,
         })
     }
@@ -131,13 +131,13 @@ impl<'a> Bytes<'a> {
                 container: self.number()?,
             }),
             5 => self.weigh(),
-            6 => self.write(Text::Report),
-            7 => self.write(Text::Sheet),
+            6 => self.write(Written::Report),
+            7 => self.write(Written::Sheet),
             8 => Some(Call::List {
                 lines: self.counted()?,
             }),
-            9 => self.write(Text::List),
-            10 => self.write(Text::Sums),
+            9 => self.write(Written::List),
+            10 => self.write(Written::Sums),
             _ => None,
         }
     }

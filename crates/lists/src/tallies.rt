@@ -2,7 +2,7 @@
 ghost use Rattle.std.specs.Prelude.{◌≤◌, ◌<◌, length};
 
 use crate::answers::Answer;
-use crate::calls::{Call, Named, OPENING, Text};
+use crate::calls::{Call, Named, OPENING, Written};
 use crate::opening::Opening;
 use rules::Refusal;
 use tally::Tally;
@@ -13,6 +13,16 @@ use tally::Tally;
 fn opened(t: &mut Tally, bytes: &[u8; OPENING]) -> Result<(), Refusal> {
     let opening = Opening { bytes };
     t.open(opening.lot(), opening.card())
+}
+
+#[inline(never)]
+fn written(t: &Tally, what: Written, lent: &mut [u8]) -> Result<usize, Refusal> {
+    match what {
+        Written::Report => report::report(*t, lent),
+        Written::Sheet => writer::write(*t, lent),
+        Written::List => list_writer::write_list(*t, lent),
+        Written::Sums => sums(t, lent),
+    }
 }
 
 // S in four bytes and Q in eight.
@@ -28,16 +38,6 @@ fn sums(t: &Tally, lent: &mut [u8]) -> Result<usize, Refusal> {
     Ok(12)
 }
 
-#[inline(never)]
-fn written(t: &Tally, text: Text, lent: &mut [u8]) -> Result<usize, Refusal> {
-    match text {
-        Text::Report => report::report(*t, lent),
-        Text::Sheet => writer::write(*t, lent),
-        Text::List => list_writer::write_list(*t, lent),
-        Text::Sums => sums(t, lent),
-    }
-}
-
 // Joins the tally itself or the other one into it. Two tallies and which is named: no buffer with a length.
 fn joined(tallies: &mut [Tally; 2], on: usize, itself: bool) -> Result<(), Refusal>
     requires { on < 2 }
@@ -46,7 +46,7 @@ fn joined(tallies: &mut [Tally; 2], on: usize, itself: bool) -> Result<(), Refus
     tallies[on].join(&other)
 }
 
-// Makes a call. `lent` are the bytes for a text.
+// Makes a call. `lent` are the bytes for what is written.
 fn made(tallies: &mut [Tally; 2], named: Named, lent: &mut [u8]) -> Answer
     requires { named.on < 2 }
 {
@@ -62,7 +62,7 @@ fn made(tallies: &mut [Tally; 2], named: Named, lent: &mut [u8]) -> Answer
             pans,
         } => Answer::from(t.weigh(container, status, pans)),
         Call::List { lines } => Answer::from(list_reader::read_list(t, lines)),
-        Call::Write { text, .. } => Answer::from(written(t, text, lent)),
+        Call::Write { what, .. } => Answer::from(written(t, what, lent)),
     }
 }
 

@@ -127,11 +127,11 @@ rest_none {s} {a} {n} starts end t b e = let q : n - 1 + 1 ≡ n = omega arith i
 pub unended : (s : Stage) → is_opened s ≡ false → is_ended s ≡ false
 unended = at_every_stage (λ s. is_opened s ≡ false → is_ended s ≡ false) (λ e. refl) (λ e. refl) (λ e. refl) (λ e. refl) (λ e. refl) (λ e. refl) (λ e. e)
 
--- nothing is held
+-- nothing is held, and both sums are 0
 abbrev pub Empty : Tally → Type 0
 Empty t = t ≡ tally_of t.lot t.card t.containers t.results 0 0 0
 
--- with another lot and another card nothing is held either
+-- a fresh tally with another lot and another card is such
 pub empty_still : (t : Tally) (l : Lot) (c : Card) → t ≡ fresh_tally → Empty (tally_of l c t.containers t.results t.held t.sum t.squares)
 empty_still t l c e = ap (λ (u : Tally). tally_of l c t.containers t.results u.held u.sum u.squares) e
 
@@ -140,7 +140,7 @@ module _ (s : List ℕ) (a n last : ℕ) {l : Lot} {c : Card} where
   pub open_refused : {e : Refusal} → Opens l c (Err e) → refused (number_of e) n ≡ read_opened s a l c last n
   open_refused {e} answer = rw (← answer.right, ne_eqb (number_of e) 0 (never_zero e)) refl
 
--- a tally that holds nothing, whose sums are 0 and whose lot may be opened with its card
+-- such a tally, whose lot may be opened with its card
 module _ (t : Tally) (e : Empty t) {u : ⊤} (answer : Opens t.lot t.card (Ok u)) where
   pub open_sound : length t.containers ≡ most_held → length t.results ≡ most_held → Sound t
   open_sound k v = subst Sound (sym e) (answer.sound refl t.containers t.results k v)
