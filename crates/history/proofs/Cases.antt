@@ -1,6 +1,6 @@
--- Worked cases of lists of calls, computed on the ledger: each refusal's number, the line of a refused comma list, and which comes
--- first where several apply. Assumes nothing.
-use Prim.Native.Nat.{ℕ, zero, suc, ◌+◌, ◌-◌, ◌/◌}
+-- Worked cases of lists of calls, computed on the ledger: each refusal's number, the line of a refused comma list, which comes first
+-- where several apply, and the sums of what is held. Assumes nothing.
+use Prim.Native.Nat.{ℕ, zero, suc, ◌+◌, ◌-◌, ◌*◌, ◌/◌}
 use mathlib.Core.Path.{◌≡◌, refl}
 use mathlib.Core.List.{List, [], ◌∷◌, ◌++◌, map}
 use lib.ListN.{replicate}
@@ -12,6 +12,7 @@ use Rattle.rules.specs.Text.{text}
 use Rattle.rules.specs.Decimals.{all_decimal, value_behind, decimal_value}
 use Rattle.rules.specs.Lines.{cut_from}
 use Rattle.rules.specs.Contents.{total, shared}
+use Rattle.rules.specs.Figures.{figures}
 use Rattle.rules.specs.Rounding.{nearest_of}
 use Rattle.rules.specs.Floats.{exact_of}
 use Rattle.rules.specs.Weights.{bad_weight, tenths_of, ratio_of, share_of, weighed_of}
@@ -203,3 +204,35 @@ list_fresh = refl
 list_counted : counts (lists (enters two 5 9800) (text "6,98\n3,98\n")) ≡ record { entered = 3; withdrawn = 0; joined = 0 }
 unfolding counts judge criticals_good rows_good total list_on enter_lines cut_from say_of plain_of percent_of hundredths_of first all_decimal decimal_value value_behind
 list_counted = refl
+
+-- ---- S and Q of the held results, which the tally keeps (`Whole.Ends`)
+abbrev sums : Calls → List ℕ
+sums cs = (figures (ledger cs)).sum ∷ (figures (ledger cs)).squares ∷ []
+
+-- at the start, and after an open whatever was held
+fresh_sums : sums start ≡ 0 ∷ 0 ∷ []
+unfolding judge total
+fresh_sums = refl
+
+opened_sums : sums (opens some (lot_of 1 many) card) ≡ 0 ∷ 0 ∷ []
+unfolding judge criticals_good rows_good total
+opened_sums = refl
+
+-- 9800 was withdrawn, and 9700 is held; calls that are refused add nothing and take nothing off
+some_sums : sums some ≡ 9700 ∷ (9700 * 9700) ∷ []
+unfolding judge criticals_good rows_good total
+some_sums = refl
+
+-- those of both after a join, and as before it where it is refused
+join_sums : sums (joins some (filled opened 4 2)) ≡ (9700 + 2 * 9800) ∷ (9700 * 9700 + 2 * (9800 * 9800)) ∷ []
+unfolding judge filled criticals_good rows_good agree same_rows total shared
+join_sums = refl
+
+shared_sums : sums (joins some (filled opened 3 2)) ≡ sums some
+unfolding judge filled criticals_good rows_good agree same_rows total shared
+shared_sums = refl
+
+-- a comma list adds all its results
+list_sums : sums (lists two (text "5,98\n6,0.01\n")) ≡ (9850 + 9700 + 9800 + 1) ∷ (9850 * 9850 + 9700 * 9700 + 9800 * 9800 + 1) ∷ []
+unfolding judge criticals_good rows_good total list_on enter_lines cut_from say_of plain_of percent_of hundredths_of first all_decimal decimal_value value_behind
+list_sums = refl
