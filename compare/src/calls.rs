@@ -17,14 +17,15 @@
 //! | 10   | sums     | the length of the lent buffer (2) |
 //!
 //! Each call is answered by one byte, 0 or the refusal's number. For a comma list two bytes follow, the
-//! line that is refused (0 where none is). For a report, a write, a writelist or sums two bytes follow, the text's
-//! length (0 where refused), and then the lent buffer itself, which is that part of the answers' own
-//! buffer. Sums have no text but 12 bytes, S (4) and Q (8) as the tally keeps them. The list ends at its last byte, at bytes that are no whole call, or where the answers' buffer
-//! has no room for the next answer. The number of bytes answered is given.
+//! line that is refused (0 where none is). For a report, a write, a writelist or sums two bytes follow, the
+//! length of what is written (0 where refused), and then the lent buffer itself, which is that part of the
+//! answers' own buffer. What is written for sums is 12 bytes, S (4) and Q (8). The list ends at its last
+//! byte, at bytes that are no whole call, or where the answers' buffer has no room for the next answer. The
+//! number of bytes answered is given.
 
 use crate::card::{Card, Lot, MOST_ROWS, Row};
 use crate::refusal::{Fault, Refusal};
-use crate::tally::{Sums, Tally};
+use crate::tally::Tally;
 use crate::weights::Weighing;
 use crate::{buffer, comma, report, sheet};
 
@@ -211,9 +212,10 @@ impl Call {
     }
 }
 
-/// S in four bytes and Q in eight.
+/// S in four bytes and Q in eight, summed over what is held and not as the tally keeps them.
 fn sums_bytes(tally: &Tally) -> [u8; 12] {
-    let Sums { sum, squares } = tally.sums();
+    let xs = || tally.held().iter().map(|held| u64::from(held.x));
+    let (sum, squares): (u64, u64) = (xs().sum(), xs().map(|x| x * x).sum());
     let mut bytes = [0; 12];
     bytes[..4].copy_from_slice(&(sum as u32).to_be_bytes());
     bytes[4..].copy_from_slice(&squares.to_be_bytes());

@@ -19,6 +19,8 @@ use crate::weights::Weighing;
 /// The program calls reads this much of its input and no more.
 const CALLS_READ: usize = 65_536;
 
+const NO_SUMS: &str = "the program has no such call, and no list for it has one";
+
 /// Runs lotreport on `number` sheets of all kinds.
 pub fn lotreport(program: &Path, seed: u64, number: usize, found: &mut Comparison) -> io::Result<()> {
     let mut prng = Prng::new(seed);
@@ -124,8 +126,8 @@ fn words(call: &Call) -> String {
         Call::Join { on, .. }
         | Call::Report { on, .. }
         | Call::Write { on, .. }
-        | Call::WriteList { on, .. }
-        | Call::Sums { on, .. } => writeln!(line, " {}", on + 1),
+        | Call::WriteList { on, .. } => writeln!(line, " {}", on + 1),
+        Call::Sums { .. } => unreachable!("{NO_SUMS}"),
     };
     result.expect("a string takes all that is written");
     line
@@ -141,7 +143,7 @@ fn written(call: &Call, tallies: &mut [Tally; 2]) -> String {
             String::from_utf8_lossy(&buf[..behind]).into_owned()
         }
         Call::Report { .. } | Call::Write { .. } | Call::WriteList { .. } => format!("REFUSED {number}\n"),
-        Call::Sums { .. } => unreachable!("the program has no such call, and no list for it has one"),
+        Call::Sums { .. } => unreachable!("{NO_SUMS}"),
         Call::List { on, .. } => format!("{number} {behind} held {}\n", tallies[*on].held().len()),
         Call::Open { on, .. }
         | Call::Enter { on, .. }
