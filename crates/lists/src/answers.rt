@@ -1,7 +1,7 @@
 // The answer to a call, and the bytes at the front of it.
 use rules::{Fault, Refusal};
 
-// 0 or the refusal's number; and what the two bytes behind it say: a text's length, or the line of a comma list that is refused, else 0.
+// 0 or the refusal's number; and what the two bytes behind it say: a length, or the line of a comma list that is refused, else 0.
 // The numbers that the bytes spell, and no `Result`: it would be taken apart for them where they are laid.
 #[derive(Clone, Copy)]
 pub struct Answer {

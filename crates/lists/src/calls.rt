@@ -51,7 +51,7 @@ pub struct Named<'a> {
 }
 
 impl Named<'_> {
-    // The bytes of its answer: a number, to a comma list also the two bytes of a line, to what is written the two of its length and those lent.
+    // The bytes of its answer: a number; to a comma list also two for a line, to a call that writes two for a length, and those lent.
     pub fn answer_width(&self) -> usize
         ensures { (1 ≤ result) × (result ≤ 65538) }
     {

@@ -7,7 +7,7 @@ use crate::opening::Opening;
 use rules::Refusal;
 use tally::Tally;
 
-// The next two are not inlined: what an open or a text needs on the stack would be made for every call.
+// The next two are not inlined: what an open or a writer needs on the stack would be made for every call.
 
 #[inline(never)]
 fn opened(t: &mut Tally, bytes: &[u8; OPENING]) -> Result<(), Refusal> {
