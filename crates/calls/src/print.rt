@@ -43,7 +43,7 @@ pub fn text<F: FnOnce(&mut [u8]) -> Result<usize, Refusal>>(
 ) -> io::Result<()>
     requires { F.IsAlwaysCallable write }
 {
-    let mut buf = buffers::zeroed::<4096>();
+    let mut buf = buffers::zeroed::<8192>();
     match write(&mut buf) {
         Ok(n) => rt.write_all(buf.get(..n).unwrap_or_default()),
         Err(refusal) => refused(rt, refusal),

@@ -1,5 +1,5 @@
 // The checks of a lot, and of what one frame gives a card.
-#![tactic(auto)]
+#![tactic(auto, using(rules::proofs::Capacity::capacity))]
 
 ghost use Rattle.std.specs.Prelude.{◌≡◌};
 ghost use Rattle.rules.specs.Cards.{lot_good, seeds_good, head_good, critical_follows, row_good};

@@ -2,7 +2,7 @@
 use Rattle.std.specs.Prelude.{ℕ, ◌+◌, Bool, true, false, List, [], ◌∷◌, ◌++◌, eqb, leb, ltb, length}
 use Rattle.std.specs.Float.Ieee.{of_fields, of_bits, to_bits}
 use Rattle.rules.specs.Choice.{pick}
-use Rattle.rules.specs.Limits.{least_reported, most_digits}
+use Rattle.rules.specs.Limits.{most_held, least_reported, most_digits}
 use Rattle.rules.specs.Contents.{is_held}
 use Rattle.rules.specs.Floats.{exact_of}
 use Rattle.rules.specs.Weights.{bad_weight, tenths_of, ratio_of, share_of, weighed_of, weighing_of}
@@ -87,7 +87,7 @@ quick_from p whole sofar (x ∷ xs) s es n =
 -- Of a whole sheet, or of every sheet that begins with these bytes. To unfold it is to unfold all that it computes with, so every
 -- definition of the reading that is not an abbrev stands here.
 unfoldable pub quickly : Printing → Bool → List ℕ → Evaluated
-unfolding quick_from result_at balance_at frame_of kind_frame lot_frame card_frame critical_frame range_frame result_frame end_frame balance_frame all_digits field_of number number_behind value_of lot_step card_step critical_step range_step end_step rows_good criticals_good weighed_of share_of tenths_of ratio_of bad_weight exact_of of_fields of_bits to_bits nearest_of
+unfolding quick_from result_at balance_at frame_of kind_frame lot_frame card_frame critical_frame range_frame result_frame end_frame balance_frame all_digits field_of number number_behind value_of lot_step card_step critical_step range_step end_step rows_good criticals_good weighed_of share_of tenths_of ratio_of bad_weight exact_of of_fields of_bits to_bits nearest_of most_held
 quickly p whole bytes = quick_from p whole [] bytes at_start [] 0
 
 -- ---- lotreport

@@ -14,8 +14,8 @@ pub fn comes_out<F: FnOnce(&[u8], &[u8], &mut [u8]) -> Result<usize, Refusal>>(
 {
     let mut sheet = buffers::zeroed::<65536>();
     let mut list = buffers::zeroed::<4096>();
-    let mut expected = buffers::zeroed::<4096>();
-    let mut buf = buffers::zeroed::<4096>();
+    let mut expected = buffers::zeroed::<8192>();
+    let mut buf = buffers::zeroed::<8192>();
     let s = case.read(rt, ".sheet", &mut sheet);
     let l = case.read(rt, ".list", &mut list);
     let e = case.read(rt, ".out", &mut expected);

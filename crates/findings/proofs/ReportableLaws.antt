@@ -62,7 +62,6 @@ module _ (vs : List ℕ) (n s q : ℕ) (f : Figures) (e : f ≡ with_sums s q (f
             spread = sums_are f sums;
             ends = rw e (ends_in_order vs n some);
           };
-          held = omega (arith, count_is);
           head = record { seeds = seeds.0; factor = factor.0; factor_high = factor_high.0 };
           rows = leb-true c.rows most_rows seeds.1;
         }

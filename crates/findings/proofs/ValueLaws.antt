@@ -5,7 +5,7 @@ use native.Mathlib.Decide.{dec_le}
 use native.Mathlib.Nat.{mul-le-mul, mul-le-mul_right, div-le_self, div-lt_iff_lt-mul}
 use mathlib.Core.Path.{◌≡◌, refl, ap}
 use mathlib.Core.Bool.{Bool, true, false}
-use Rattle.rules.specs.Limits.{highest_x, most_factor, most_seeds}
+use Rattle.rules.specs.Limits.{most_held, highest_x, most_factor, most_seeds}
 use Rattle.rules.specs.Attributes.{is_void, mean_scale}
 use Rattle.rules.specs.Figures.{deviation, mean_of, ratio, less_whole, reported_h, exceeds, verdict_by, verdict_on}
 use Rattle.rules.specs.Spread.{HeadWithin}
@@ -17,14 +17,15 @@ use Rattle.rules.specs.declared.Fraction.{Fraction}
 use Rattle.std.specs.Prelude.{Option, None, Some}
 use Rattle.rules.proofs.RoundingLaws.{low}
 use Rattle.rules.proofs.SpreadLaws.{highest_most, ratio_le, under_positive}
+use Rattle.rules.proofs.Capacity.{capacity}
 use Rattle.rounding.specs.Dividing.{Workable, workable, division_of, is_above}
 use Rattle.rounding.proofs.DividingLaws.{workable_of, above_is}
 use Rattle.rounding.specs.declared.Division.{Division}
-use Rattle.findings.specs.Reportable.{most_served, Served}
+use Rattle.findings.specs.Reportable.{Served}
 
 -- ---- the numbers on the way to H
 abbrev most_sum : ℕ
-most_sum = highest_x * most_served
+most_sum = highest_x * most_held
 
 module _ (f : Figures) (m : Served f) where
   sum_most : f.sum ≤ most_sum
@@ -32,7 +33,7 @@ module _ (f : Figures) (m : Served f) where
 
   -- N·Q and S², and so D
   pub product_most : f.count * f.squares ≤ most_sum * most_sum
-  product_most = omega (arith, mul-le-mul m.few m.spread.squares_high, sum_most)
+  product_most = rw capacity (omega (arith, rw capacity at (mul-le-mul m.few m.spread.squares_high), rw capacity at sum_most))
 
   pub square_most : f.sum * f.sum ≤ most_sum * most_sum
   square_most = mul-le-mul sum_most sum_most
@@ -41,32 +42,32 @@ module _ (f : Figures) (m : Served f) where
   deviation_most = omega (arith, product_most)
 
   -- (N-1)·S
-  pub part_most : (f.count - 1) * f.sum ≤ most_served * most_sum
-  part_most = mul-le-mul (let k : f.count - 1 ≤ most_served = omega (arith, m.few) in k) sum_most
+  pub part_most : (f.count - 1) * f.sum ≤ most_held * most_sum
+  part_most = mul-le-mul (let k : f.count - 1 ≤ most_held = omega (arith, m.few) in k) sum_most
 
   -- (N-1)·S·(10000·N - S)
-  pub parts_most : (f.count - 1) * f.sum * (highest_x * f.count - f.sum) ≤ most_served * most_sum * most_sum
+  pub parts_most : (f.count - 1) * f.sum * (highest_x * f.count - f.sum) ≤ most_held * most_sum * most_sum
   parts_most = mul-le-mul part_most (let k : highest_x * f.count - f.sum ≤ most_sum = omega (arith, m.few) in k)
 
   module _ (h : Head) (w : HeadWithin h) where
     -- 10·n·N
-    pub seeds_most : 10 * h.seeds * f.count ≤ 10 * most_seeds * most_served
+    pub seeds_most : 10 * h.seeds * f.count ≤ 10 * most_seeds * most_held
     seeds_most = mul-le-mul (let k : 10 * h.seeds ≤ 10 * most_seeds = omega (arith, w.seeds) in k) m.few
 
-    pub over_most : 10 * h.seeds * f.count * deviation f ≤ 10 * most_seeds * most_served * (most_sum * most_sum)
+    pub over_most : 10 * h.seeds * f.count * deviation f ≤ 10 * most_seeds * most_held * (most_sum * most_sum)
     over_most = mul-le-mul seeds_most deviation_most
 
-    pub percentages_most : (f.count - 1) * f.sum * (highest_x * f.count - f.sum) * h.factor ≤ most_served * most_sum * most_sum * most_factor
+    pub percentages_most : (f.count - 1) * f.sum * (highest_x * f.count - f.sum) * h.factor ≤ most_held * most_sum * most_sum * most_factor
     percentages_most = mul-le-mul parts_most w.factor_high
 
-    pub counts_most : (f.count - 1) * f.sum * h.factor ≤ most_served * most_sum * most_factor
+    pub counts_most : (f.count - 1) * f.sum * h.factor ≤ most_held * most_sum * most_factor
     counts_most = mul-le-mul part_most w.factor_high
 
-    under_most : (a : Attribute) → (ratio a h f).under ≤ most_served * most_sum * most_sum * most_factor
+    under_most : (a : Attribute) → (ratio a h f).under ≤ most_held * most_sum * most_sum * most_factor
     unfolding ratio
     under_most Purity = percentages_most
     under_most Germination = percentages_most
-    under_most Count = omega (arith, counts_most)
+    under_most Count = rw capacity (omega (arith, rw capacity at counts_most))
 
     -- 100·V/W can be worked out where the mean is not void
     pub h_workable : (a : Attribute) → is_void a f.count f.sum ≡ false → Workable 100 (ratio a h f).over (ratio a h f).under
@@ -76,7 +77,7 @@ module _ (f : Figures) (m : Served f) where
         record {
           scale = omega arith;
           positive = k;
-          under = omega (arith, under_most a);
+          under = omega (arith, rw capacity at (under_most a));
           whole =
               (div-lt_iff_lt-mul k).1
               (omega (arith, ratio_le a h f m.spread m.enough w, mul-le-mul_right q.under (highest_most a)));

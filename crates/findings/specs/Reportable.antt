@@ -35,19 +35,14 @@ abbrev pub found_of : Attribute → Card → Figures → Option Findings
 found_of a c f = pick (reportable c f) (Some (findings_of a c f)) None
 
 -- ---- as facts
--- as many results as the numbers on the way to H leave room for: more than a tally holds
-abbrev pub most_served : ℕ
-most_served = 200
-
--- the figures of enough results, whose sums keep to Spread
+-- the figures of enough results and not too many, whose sums keep to Spread
 pub record Served (f : Figures) : Type 0 where
   pub enough : least_reported ≤ f.count
-  pub few : f.count ≤ most_served
+  pub few : f.count ≤ most_held
   pub spread : Spread highest_x f
   pub ends : f.smallest ≤ f.largest
 
 pub record IsReportable (c : Card) (f : Figures) : Type 0 where
   pub served : Served f
-  pub held : f.count ≤ most_held
   pub head : HeadWithin c.head
   pub rows : c.rows ≤ most_rows

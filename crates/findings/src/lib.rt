@@ -1,6 +1,6 @@
 // The findings of a report: what its five lines say. A cast with `as` keeps every bit of what it is given, as the proof shows; `try_from`
 // would be no plainer, since it needs a value for the case that cannot be.
-#![tactic(auto)]
+#![tactic(auto, using(rules::proofs::Capacity::capacity))]
 
 ghost use Rattle.std.specs.Prelude.{◌≡◌, ◌*◌, ◌≤◌, length, false};
 ghost use Rattle.rules.specs.Limits.{highest_x};
@@ -76,7 +76,7 @@ fn r_value(a: Attribute, f: Figures, tolerated: Option<u32>) -> Value
 }
 
 // H, R and the lot's verdict, where the mean is within the attribute's limits. The row goes by the mean that is printed.
-#[tactic(auto, using(crate::proofs::ValueLaws::h_workable))]
+#[tactic(auto, using(crate::proofs::ValueLaws::h_workable, rules::proofs::Capacity::capacity))]
 fn judgement(a: Attribute, c: Card, f: Figures, printed: u32) -> Judgement
     requires reportable { IsReportable c f }
     requires printed { printed ≡ (mean_of a f).nearest }

@@ -17,7 +17,7 @@ fn deviation(f: Figures) -> u64
 }
 
 // 10·n·N·D / ((N-1)·S·(10000·N - S)·F).
-#[tactic(auto, using(crate::proofs::ValueLaws::percentages_most))]
+#[tactic(auto, using(crate::proofs::ValueLaws::percentages_most, rules::proofs::Capacity::capacity))]
 fn percentages(h: Head, f: Figures) -> Fraction
     requires { Served f × HeadWithin h }
     ensures { result ≡ of_percentages h f }

@@ -75,7 +75,7 @@ fn card_step(
 }
 
 // The critical value v for k results.
-#[tactic(auto, unfolding(rules::specs::Reading::critical_step))]
+#[tactic(auto, using(rules::proofs::Capacity::capacity), unfolding(rules::specs::Reading::critical_step))]
 fn critical_step(p: Progress, card: &mut Card, k: u16, v: u16) -> Result<Progress, Refusal>
     ensures { HeadStepIs (frame.Critical k v) p card.old result card.new }
 {

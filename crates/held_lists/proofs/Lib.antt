@@ -1,3 +1,4 @@
 pub mod Stored
 pub mod InOrder
 pub mod Meeting
+pub mod Blocks

@@ -19,6 +19,7 @@ use Rattle.rules.specs.ListReading.{Listed, list_on}
 use Rattle.rules.specs.OnSheets.{faulty, as_written, without_line, after_call, call_on, enter_sheet, withdraw_sheet, enter_list_sheet}
 use Rattle.rules.proofs.Taken.{taken}
 use Rattle.rules.proofs.ListLaws.{list_few}
+use Rattle.rules.proofs.Capacity.{capacity}
 use Rattle.reading_theorems.specs.Lengths.{longest_read}
 use Rattle.reading_theorems.proofs.Accepted.{refused_not}
 use Rattle.reading_theorems.proofs.Fitting.{frame_fits}
@@ -72,4 +73,4 @@ withdraw_few sheet k d = call_few sheet d 0 (λ g. without_line (withdraw_on g k
 
 pub list_lines_few : (sheet list d : List ℕ) → (enter_list_sheet sheet list d).line ≤ widest
 unfolding enter_list_sheet
-list_lines_few sheet list d = call_few sheet d 2 (λ g. list_on g list) (λ g. omega (arith, list_few g list))
+list_lines_few sheet list d = call_few sheet d 2 (λ g. list_on g list) (λ g. omega (arith, list_few g list, capacity))

@@ -22,7 +22,9 @@ use Rattle.rules.specs.declared.Attribute.TheVariants.{Purity, Germination, Coun
 use Rattle.rules.proofs.Tests.{and_left, and_right}
 use Rattle.rules.proofs.LedgerLaws.{enter_tells}
 use Rattle.rules.proofs.ListLaws.{line_step, lines_go, lines_stop, line_held}
-use Rattle.list_theorems.specs.Statement.{line_bytes, longest_list}
+use Rattle.rules.proofs.Capacity.{capacity}
+use Rattle.reading_theorems.specs.Lengths.{longest_list}
+use Rattle.list_theorems.specs.Statement.{line_bytes}
 
 -- ---- a number that is accepted: one of more digits is larger
 behind_least : (l : List ℕ) (n : ℕ) → n ≤ value_behind n l
@@ -218,4 +220,4 @@ module _ (g : Ledger) (s : List ℕ) (h : containers g ≤ widest) (e : (list_on
 
   pub list_few : length s ≤ longest_list
   unfolding list_on
-  list_few = omega (arith, list_lines_lem, (lines_fit g (lines_of s) g 0 h e).1)
+  list_few = omega (arith, list_lines_lem, (lines_fit g (lines_of s) g 0 h e).1, capacity)

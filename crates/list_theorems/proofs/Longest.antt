@@ -15,10 +15,12 @@ use Rattle.rules.specs.Cards.{criticals_good, rows_good, open_number}
 use Rattle.rules.specs.Ledger.{Ledger, Judged, judged, opened, with_contents, fresh_ledger}
 use Rattle.rules.specs.ListWriting.{list_line, place_listed, list_lines, list_of}
 use Rattle.rules.proofs.TextLaws.{one_digit, more_digits}
+use Rattle.rules.proofs.Capacity.{capacity}
 use Rattle.history.specs.Calls.{judge, ledger}
 use Rattle.round_trip_theorems.specs.Statement.{full_card}
 use Rattle.round_trip_theorems.proofs.ResultLines.{upto, upto_above, upto_size, upto_more, accepted_as, enter_good}
-use Rattle.list_theorems.specs.Statement.{line_bytes, longest_list, wide_lot, listing}
+use Rattle.reading_theorems.specs.Lengths.{longest_list}
+use Rattle.list_theorems.specs.Statement.{line_bytes, wide_lot, listing}
 
 -- ---- the ledger that is filled: the highest result from container 10000 on
 abbrev highest : Contents
@@ -52,7 +54,7 @@ nothing_yet = fun_ext λ k. by k (dec_le k 9999)
 
 wide_opens : open_number wide_lot full_card ≡ 0
 unfolding criticals_good rows_good
-wide_opens = refl
+wide_opens = rw capacity refl
 
 listing_is : (n : ℕ) → n ≤ most_held → judge (listing n) ≡ accepted_as (full n)
 unfolding listing judge
@@ -64,8 +66,8 @@ listing_is (suc n) h =
     let size = highest_size n in
     let highest-here : highest (suc last) ≡ holds highest_x = rw (le-leb 10000 (suc last) (omega arith)) refl in
     rw (next, here, listing_is n (omega arith))
-    (enter_good (full n) (suc last) highest_x (omega arith) (omega arith) (omega arith) (upto_above highest last (suc last) (omega arith))
-    (omega (arith, upto_size highest last widest refl (omega arith)))
+    (enter_good (full n) (suc last) highest_x (omega arith) (omega (arith, capacity)) (omega arith) (upto_above highest last (suc last) (omega arith))
+    (omega (arith, upto_size highest last widest refl (omega (arith, capacity)), capacity))
     ∙ ap (λ (q : Contents). accepted_as (with_contents (opened wide_lot full_card) q)) (upto_more highest last (holds highest_x) highest-here))
 
 pub calls : (n : ℕ) → n ≤ most_held → (judge (listing n)).number ≡ 0
@@ -119,7 +121,7 @@ full_long k x e = by (dec_le k (9999 + most_held)) (dec_le 10000 k)
     by (yes p) (yes q) =
         let is : holds highest_x ≡ holds x = sym (rw (le-leb k (9999 + most_held) p, le-leb 10000 k q) refl) ∙ e in
         let value : highest_x ≡ x = cc in
-        rw (← value) (line_long k q (omega arith))
+        rw (← value) (line_long k q (omega (arith, capacity)))
     by (yes p) (no q) = no_content (sym (rw (le-leb k (9999 + most_held) p, lt-leb 10000 k (omega arith)) refl) ∙ e)
     by (no p) q = no_content (sym (upto_above highest (9999 + most_held) k (omega arith)) ∙ e)
 
@@ -127,4 +129,4 @@ pub long : length (list_of (ledger (listing most_held))) ≡ longest_list
 unfolding list_of
 long =
     ap (λ (j : Judged). length (list_of j.ledger)) (listing_is most_held (omega arith))
-    ∙ omega (arith, lines_long (filled_to most_held) full_long widest, upto_size highest (9999 + most_held) widest refl (omega arith), highest_size most_held)
+    ∙ omega (arith, lines_long (filled_to most_held) full_long widest, upto_size highest (9999 + most_held) widest refl (omega (arith, capacity)), highest_size most_held, capacity)

@@ -19,6 +19,7 @@ use Rattle.rules.specs.declared.Refusal.{Refusal}
 use Rattle.rules.specs.declared.Fault.{Fault}
 use Rattle.rules.proofs.RefusalLaws.{never_zero}
 use Rattle.rules.proofs.TextLaws.{fits_is}
+use Rattle.rules.proofs.Capacity.{capacity}
 use Rattle.tally.specs.View.{Outcome, outcome_of, view}
 use Rattle.tally.specs.Calls.{Sound, Opened, answer}
 use Rattle.tally.specs.declared.Tally.{Tally}
@@ -31,7 +32,8 @@ use Rattle.round_trip_theorems.proofs.Writable.{open_cut, sound_writable}
 use Rattle.round_trip_theorems.proofs.ResultLines.{accepted_as}
 use Rattle.round_trip_theorems.proofs.Back.{back}
 use Rattle.round_trip_theorems.proofs.Trip.{laid_down}
-use Rattle.list_theorems.specs.Statement.{ComesBack, IsWritten, line_bytes, longest_list, AsOnLedger, ListTrip}
+use Rattle.reading_theorems.specs.Lengths.{longest_list}
+use Rattle.list_theorems.specs.Statement.{ComesBack, IsWritten, line_bytes, AsOnLedger, ListTrip}
 use Rattle.list_theorems.proofs.Back.{written_back_lem}
 use Rattle.list_writer.proofs.ListLength.{list_most}
 use Rattle.list_theorems.proofs.Lengths.{list_lines_lem, list_few}
@@ -72,7 +74,7 @@ module _ (t : Tally) (s : Sound t) where
   each = omega (arith, list_most t s, size_is_lem t s)
 
   short : length (list_of (view t)) ≤ longest_list
-  short = omega (arith, list_most t s, s.small)
+  short = omega (arith, list_most t s, s.small, capacity)
 
 -- a buffer with room for the longest is never short
 room_serves : (t : Tally) (d e : List ℕ) (w : Result ℕ Refusal) → Sound t → longest_list ≤ length d → text_answer w e ≡ write_list_on (view t) d → IsWritten w

@@ -16,6 +16,7 @@ use Rattle.rules.specs.declared.Lot.{Lot}
 use Rattle.rules.specs.declared.Card.{Card}
 use Rattle.rules.specs.declared.Refusal.{Refusal}
 use Rattle.rules.specs.declared.Fault.{Fault}
+use Rattle.reading_theorems.specs.Lengths.{longest_list}
 use Rattle.tally.specs.View.{view}
 use Rattle.tally.specs.declared.Tally.{Tally}
 use Rattle.list_reader.specs.Promise.{listed}
@@ -39,10 +40,6 @@ pub record IsWritten (w : Result ℕ Refusal) : Type 0 where
 -- the most bytes of a line, its end byte included: five digits, a comma, and six bytes of a percentage
 abbrev pub line_bytes : ℕ
 line_bytes = 13
-
--- the longest list that is written, and the longest that is accepted
-abbrev pub longest_list : ℕ
-longest_list = 780
 
 -- a purity lot of the most containers
 abbrev pub wide_lot : Lot
@@ -73,15 +70,15 @@ pub record ListTrip : Type 0 where
       → (κ₁ : Lft) (b : MutBor (List ℕ)) (n : ℕ) (a : MutBor (List ℕ)) → WriteListStep κ₁ t b (Ok n) a
       → (κ₂ κ₃ : Lft) (v w : MutBor Tally) → v.now ≡ u.now
       → (list : Bor (List ℕ)) (r : Result ⊤ Fault) → list.now ≡ take n a.now → ListStep κ₂ κ₃ v list r w → ComesBack r w.now (ledger cs)
-  -- a list that is written has at most 13 bytes for each held result, none where nothing is held, and so at most 780
+  -- a list that is written has at most 13 bytes for each held result, none where nothing is held, and so at most 2,600
   pub each : (cs : Calls) (ns : List Answer) (t : Tally) → Run cs ns t → (κ : Lft) (b : MutBor (List ℕ)) (n : ℕ) (a : MutBor (List ℕ)) → WriteListStep κ t b (Ok n) a → n ≤ line_bytes * held (ledger cs)
   pub short : (cs : Calls) (ns : List Answer) (t : Tally) → Run cs ns t → (κ : Lft) (b : MutBor (List ℕ)) (n : ℕ) (a : MutBor (List ℕ)) → WriteListStep κ t b (Ok n) a → n ≤ longest_list
   -- and one has that length: each of these calls is accepted
   pub calls : (n : ℕ) → n ≤ most_held → (judge (listing n)).number ≡ 0
   pub long : length (list_of (ledger (listing most_held))) ≡ longest_list
-  -- a buffer of 780 bytes is never short
+  -- a buffer of 2,600 bytes is never short
   pub room : (cs : Calls) (ns : List Answer) (t : Tally) → Run cs ns t → (κ : Lft) (b : MutBor (List ℕ)) (w : Result ℕ Refusal) (a : MutBor (List ℕ)) → longest_list ≤ length b.now → WriteListStep κ t b w a → IsWritten w
-  -- by the definitions: a list that is accepted has at most 13 bytes a line, and at most 780
+  -- by the definitions: a list that is accepted has at most 13 bytes a line, and at most 2,600
   pub lines : (g : Ledger) (s : List ℕ) → containers g ≤ widest → (list_on g s).number ≡ 0 → length s ≤ line_bytes * length (lines_of s)
   pub few : (g : Ledger) (s : List ℕ) → containers g ≤ widest → (list_on g s).number ≡ 0 → length s ≤ longest_list
   -- a call on the sheet of t, once a lot is opened, is the call on what t holds; and so on what the sheet writer's call laid down for t

@@ -1,10 +1,15 @@
 // The calls of a list, read one after the other. Numbers have their most significant byte first.
 ghost use Rattle.std.specs.Prelude.{◌≤◌, ◌<◌, IfSome};
 
-use rules::Pans;
+use rules::{CRITICALS, MOST_ROWS, Pans};
 
-// The bytes of an open behind its first two.
-pub const OPENING: usize = 1024;
+// The bytes of an open behind its first two: six numbers of two bytes, a number of four for each critical value, and four of two for each
+// row.
+pub const FIRST_CRITICAL: usize = 6 * 2;
+
+pub const FIRST_ROW: usize = FIRST_CRITICAL + 4 * CRITICALS;
+
+pub const OPENING: usize = FIRST_ROW + 4 * 2 * MOST_ROWS;
 
 // What is written of a tally: a text, or its two sums.
 #[derive(Clone, Copy)]

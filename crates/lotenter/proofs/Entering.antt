@@ -21,6 +21,7 @@ use Rattle.rules.specs.Printing.{fault_line}
 use Rattle.rules.specs.declared.Fault.{Fault}
 use Rattle.rules.specs.declared.Refusal.{Refusal}
 use Rattle.rules.proofs.TextLaws.{length_decimal}
+use Rattle.reading_theorems.specs.Lengths.{longest_written}
 use Rattle.buffers.proofs.Counting.{prefix_len_of_le}
 use Rattle.decimal.specs.Laying.{LaysAt}
 use Rattle.program_input.proofs.Texts.{laid_text}
@@ -39,7 +40,7 @@ or-true : (b : Bool) → b || true ≡ true
 or-true true = refl
 or-true false = refl
 
-module _ (s l d : List ℕ) (room : 4096 ≤ length d) where
+module _ (s l d : List ℕ) (room : longest_written ≤ length d) where
   -- the sheet after it, where the sheet is read and every line is entered
   pub entered_shows : {n : ℕ} {e : List ℕ} → on_sheet_answer (Ok n) e ≡ enter_list_sheet s l d → Shows (text_of (read_of s) l true) e n × (text_of (read_of s) l false ≡ usage_line)
   unfolding enter_list_sheet text_of
@@ -86,11 +87,11 @@ module _ (s l d : List ℕ) (room : 4096 ≤ length d) where
       by (refused n m) h q = sym (told q)
 
 -- ---- the texts that are laid then
-fault_most : (e file line : ℕ) → length (fault_line e file line) ≤ 4096
+fault_most : (e file line : ℕ) → length (fault_line e file line) ≤ longest_written
 unfolding fault_line
 fault_most e file line = simp length-append (omega (arith, length_decimal e, length_decimal file, length_decimal line))
 
-fault_shows : (d e : List ℕ) (r : Result ℕ Refusal) (z n file line : ℕ) → 4096 ≤ length d → z ≡ result_unwrap_or r 0 → text_answer r e ≡ laid_in (fault_line n file line) d
+fault_shows : (d e : List ℕ) (r : Result ℕ Refusal) (z n file line : ℕ) → longest_written ≤ length d → z ≡ result_unwrap_or r 0 → text_answer r e ≡ laid_in (fault_line n file line) d
     → length e ≡ length d → Shows (fault_line n file line) e z
 fault_shows d e r z n file line h i q k =
     let t = fault_line n file line in
@@ -98,12 +99,12 @@ fault_shows d e r z n file line h i q k =
     let w = (laid_text t d e r z i q fits k).0 in
     laid_shows t d e z fits w.count w.text
 
-pub usage_shows : {d e : List ℕ} {r : ℕ} → 4096 ≤ length d → LaysAt usage_line 0 d e r → Shows usage_line e r
+pub usage_shows : {d e : List ℕ} {r : ℕ} → longest_written ≤ length d → LaysAt usage_line 0 d e r → Shows usage_line e r
 usage_shows {d} {e} {r} h w = let x = w.fits (omega arith) in laid_shows usage_line d e r (omega arith) x.count x.text
 
 -- the line of a fault, whatever of the list was read
-pub fault_shown : (s l d : List ℕ) (room : 4096 ≤ length d) {o : Result ℕ Fault} {f : Fault} → o ≡ Err f → (e : List ℕ) → on_sheet_answer o e ≡ enter_list_sheet s l d
-    → 4096 ≤ length e → (whole : Bool) (e' : List ℕ) (r : Result ℕ Refusal) (z file line : ℕ) → file ≡ file_of f.place → line ≡ line_of f.place → z ≡ result_unwrap_or r 0
+pub fault_shown : (s l d : List ℕ) (room : longest_written ≤ length d) {o : Result ℕ Fault} {f : Fault} → o ≡ Err f → (e : List ℕ) → on_sheet_answer o e ≡ enter_list_sheet s l d
+    → longest_written ≤ length e → (whole : Bool) (e' : List ℕ) (r : Result ℕ Refusal) (z file line : ℕ) → file ≡ file_of f.place → line ≡ line_of f.place → z ≡ result_unwrap_or r 0
     → text_answer r e' ≡ laid_in (fault_line (number_of f.refusal) file line) e → length e' ≡ length e
     → Shows (text_of (read_of s) l whole) e' z
 fault_shown s l d room {f = f} is e q h whole e' r z file line x y i p k =

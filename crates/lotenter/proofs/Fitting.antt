@@ -1,5 +1,6 @@
--- A sheet with a list entered fits 4,096 bytes, and its lot was opened. Assumes nothing.
+-- A sheet with a list entered is no longer than the longest that is written, and its lot was opened. Assumes nothing.
 use mathlib.Core.Path.{◌≡◌, refl}
+use mathlib.Core.Bool.{true}
 use mathlib.Core.List.{List, [], ◌∷◌}
 use Prim.Native.Nat.{ℕ, ◌+◌, ◌≤◌}
 use native.Mathlib.Omega.{arith}
@@ -11,7 +12,7 @@ use Rattle.rules.specs.Limits.{most_held, most_rows, criticals}
 use Rattle.rules.specs.Numbers.{wrote}
 use Rattle.rules.specs.Text.{laid}
 use Rattle.rules.specs.Contents.{one}
-use Rattle.rules.specs.Cards.{open_number}
+use Rattle.rules.specs.Cards.{criticals_good, open_number}
 use Rattle.rules.specs.Ledger.{Ledger, containers, held, enter_number, enter_on}
 use Rattle.rules.specs.Lines.{Line}
 use Rattle.rules.specs.Reading.{accepted, read_of}
@@ -23,18 +24,21 @@ use Rattle.rules.specs.declared.Card.{Card}
 use Rattle.rules.proofs.Tests.{and_right}
 use Rattle.rules.proofs.TextLaws.{fits_is}
 use Rattle.rules.proofs.ContentLaws.{total_none}
-use Rattle.rules.proofs.CardLaws.{open_lot, open_rows}
+use Rattle.rules.proofs.CardLaws.{open_lot, open_criticals, open_rows}
 use Rattle.rules.proofs.LedgerLaws.{enter_tells, enter_held}
 use Rattle.rules.proofs.ListLaws.{line_step, lines_go, lines_stop, lines_over}
+use Rattle.rules.proofs.Capacity.{capacity}
+use Rattle.reading_theorems.specs.Lengths.{longest_written}
 use Rattle.reading_theorems.specs.Spelling.{Entry, Made, opens, enters}
 use Rattle.reading_theorems.proofs.Accepted.{accepted_sheet}
 use Rattle.reading_theorems.proofs.Spelt.{sheet_made}
-use Rattle.writer.proofs.Counting.{filled_within}
+use Rattle.writer.proofs.Counting.{filled_few}
 use Rattle.writer.proofs.Lengths.{sheet_length}
 
--- a ledger of an opened lot, with no more rows and results than there are places for
+-- a ledger of an opened lot, with good critical values, and no more rows and results than there are places for
 pub record Placed (g : Ledger) : Type 0 where
   pub opened : 1 ≤ containers g
+  pub criticals_are : criticals_good g.card.critical criticals ≡ true
   pub rows : g.card.rows ≤ most_rows
   pub small : held g ≤ most_held
 
@@ -43,7 +47,7 @@ entered_placed : (g : Ledger) (k x : ℕ) → Placed g → enter_number g k x �
 entered_placed g k x p e =
     let few : held (enter_on g k x).ledger ≤ most_held = omega (arith, enter_held g k x e, (enter_tells g k x e).room) in
     let told = eq-eqb (enter_number g k x) 0 e in
-    rw told (record { opened = p.opened; rows = p.rows; small = rw told at few })
+    rw told (record { opened = p.opened; criticals_are = p.criticals_are; rows = p.rows; small = rw told at few })
 
 -- what a sheet yields
 made_placed : (l : Lot) (c : Card) (es : List Entry) (g : Ledger) → Made l c es g → Placed g
@@ -51,6 +55,7 @@ made_placed l c es g (opens q) =
     rw (eq-eqb (open_number l c) 0 q)
     (record {
       opened = leb-true 1 l.containers (and_right (leb l.attribute 2) _ (open_lot l c q));
+      criticals_are = open_criticals l c q;
       rows = open_rows l c q;
       small = rw (total_none one l.containers refl) (omega arith);
     })
@@ -83,11 +88,11 @@ unfolding list_on
 list_placed g list p z = lines_placed g _ g 0 p z
 
 -- ---- it is written
-pub sheet_most : (g : Ledger) → Placed g → (1 ≤ length (sheet_of g)) × (length (sheet_of g) ≤ 4096)
+pub sheet_most : (g : Ledger) → Placed g → (1 ≤ length (sheet_of g)) × (length (sheet_of g) ≤ longest_written)
 sheet_most g p =
-    let few = filled_within g.card.critical criticals in
-    (omega (arith, sheet_length g), omega (arith, sheet_length g, few, p.rows, p.small))
+    let few = filled_few g.card.critical criticals p.criticals_are in
+    (omega (arith, sheet_length g), omega (arith, sheet_length g, few, p.rows, p.small, capacity))
 
-pub written_is : (g : Ledger) (d : List ℕ) → Placed g → 4096 ≤ length d → write_on g d ≡ wrote (length (sheet_of g)) (laid (sheet_of g) d)
+pub written_is : (g : Ledger) (d : List ℕ) → Placed g → longest_written ≤ length d → write_on g d ≡ wrote (length (sheet_of g)) (laid (sheet_of g) d)
 written_is g d p h =
     rw (ne_eqb (containers g) 0 (λ e. omega (arith, p.opened))) (fits_is (sheet_of g) d (omega (arith, (sheet_most g p).1)))

@@ -6,6 +6,7 @@ use Rattle.rules.specs.Text.{text}
 use Rattle.rules.specs.Reading.{SheetOutcome, accepted, refused, read_of}
 use Rattle.rules.specs.ListReading.{list_on}
 use Rattle.rules.specs.Printing.{entered, ended_lines}
+use Rattle.reading_theorems.specs.Lengths.{longest_written}
 use Rattle.buffers.specs.Counts.{IsPrefixLen}
 
 -- of the bytes that were read of a list these are entered: all of them, or, where they fill their places, the lines that end among them
@@ -32,4 +33,4 @@ pub record Shows (t e : List ℕ) (r : ℕ) : Type 0 where
 
 -- a text for these lines was laid in a buffer that had the bytes d and has the bytes e now; it has room for every sheet
 abbrev pub ShowsEntered : List ℕ → List ℕ → Bool → List ℕ → List ℕ → ℕ → Type 0
-ShowsEntered sheet lines whole d e r = 4096 ≤ length d → Shows (text_of (read_of sheet) lines whole) e r
+ShowsEntered sheet lines whole d e r = longest_written ≤ length d → Shows (text_of (read_of sheet) lines whole) e r

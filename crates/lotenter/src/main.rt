@@ -18,7 +18,7 @@ use std::rt::{Env, Files};
 const LIST: usize = 65536;
 
 // Places for the text: none that is printed is longer.
-const TEXT: usize = 4096;
+const TEXT: usize = 8192;
 
 // How many bytes the lines take that have their end byte.
 fn ended_bytes(list: &[u8]) -> usize

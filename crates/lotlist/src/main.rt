@@ -11,7 +11,7 @@ use program_input::SHEET;
 use std::io;
 
 // Places for the text: none that is printed is longer.
-const TEXT: usize = 1024;
+const TEXT: usize = 4096;
 
 // `answer` and `main` are those of lotreport but for the call and the places. One `answer` for both, over a trait, would ask of each
 // program a type, an impl with the call and the text, and the law of its greatest length, in place of a line around its own promise: no

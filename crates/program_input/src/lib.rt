@@ -6,7 +6,7 @@ ghost use Rattle.rules.specs.Reading.{read_of};
 ghost use Rattle.program_input.specs.Input.{BeginsWith, IsSheetOf};
 
 // Places for a sheet: what an input has behind them makes no difference to what it is read as.
-pub const SHEET: usize = 4096;
+pub const SHEET: usize = 16384;
 
 // The first `read` bytes of a buffer: they are the first N of every input that begins with them, or all of it. An array, since its length
 // says how many bytes were asked for: where fewer came, they are all of the input.

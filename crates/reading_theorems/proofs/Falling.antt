@@ -20,6 +20,7 @@ use Rattle.rules.proofs.Tests.{and_left, and_right}
 use Rattle.rules.proofs.ContentLaws.{total_none}
 use Rattle.rules.proofs.LedgerLaws.{enter_tells, enter_held}
 use Rattle.rules.proofs.Taken.{Taken, lot, card, critical, range, result, balance, ends}
+use Rattle.rules.proofs.Capacity.{capacity}
 use Rattle.reading_theorems.specs.Lengths.{longest_read}
 use Rattle.reading_theorems.proofs.StageLaws.{unopened}
 use Rattle.reading_theorems.proofs.Fitting.{Fits}
@@ -123,4 +124,4 @@ falls n s u w (ends t b e) = omega (arith, w, behind_card 6 s.stage (omega arith
 
 pub room_start : room at_start ≡ longest_read
 unfolding room head_room stage_room criticals_free total
-room_start = refl
+room_start = rw capacity refl

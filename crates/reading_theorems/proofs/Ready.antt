@@ -23,6 +23,7 @@ use Rattle.rules.specs.declared.Frame.{Frame}
 use Rattle.rules.proofs.Tests.{and_both, and_left, and_right}
 use Rattle.rules.proofs.CardLaws.{full_fresh, full_head, full_critical, full_row}
 use Rattle.rules.proofs.Taken.{Taken, lot, card, critical, range, result, balance, ends}
+use Rattle.rules.proofs.Capacity.{capacity}
 use Rattle.reading_theorems.proofs.StageLaws.{kind_before, follows}
 use Rattle.reading_theorems.proofs.Accepted.{Leads, nothing, line}
 use Rattle.reading_theorems.proofs.Falling.{critical_rises}
@@ -55,7 +56,7 @@ start_ready =
       lot = λ h. absurd (omega arith);
       few = omega arith;
       head = λ h. absurd (omega arith);
-      critical = refl;
+      critical = rw capacity refl;
       rows = refl;
       most = omega arith;
       full = full_fresh;

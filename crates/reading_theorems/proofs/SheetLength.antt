@@ -1,4 +1,4 @@
--- No sheet that is accepted is longer than 3,469 bytes. Assumes nothing.
+-- No sheet that is accepted is longer than 8,229 bytes. Assumes nothing.
 use Prim.{Unit, tt}
 use mathlib.Core.Bool.{Bool, true, false}
 use mathlib.Core.List.{List, [], ◌∷◌, ◌++◌}

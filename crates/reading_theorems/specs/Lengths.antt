@@ -1,4 +1,4 @@
--- How long a sheet can be, and how many bytes of an input decide what is printed for it.
+-- How long a sheet and a comma list can be, and how many bytes of an input decide what is printed for it.
 use Rattle.std.specs.Prelude.{◌≡◌, List, ℕ, ◌+◌, ◌≤◌, length, take}
 use Rattle.rules.specs.Limits.{most_bytes}
 use Rattle.rules.specs.Ledger.{Ledger}
@@ -7,11 +7,15 @@ use Rattle.rules.specs.Printing.{printed_for}
 
 -- the longest sheet that is written
 abbrev pub longest_written : ℕ
-longest_written = 2629
+longest_written = 5429
 
 -- the longest sheet that is accepted: each of its results is weighed
 abbrev pub longest_read : ℕ
-longest_read = 3469
+longest_read = 8229
+
+-- the longest comma list that is written, and the longest that is accepted
+abbrev pub longest_list : ℕ
+longest_list = 2600
 
 -- as many bytes as the longest accepted sheet has, and those of one line more, which makes it a faulty one
 abbrev pub bytes_that_decide : ℕ

@@ -2,7 +2,7 @@
 use mathlib.Core.Path.{◌≡◌, refl, sym, ap, ◌∙◌}
 use mathlib.Core.Bool.{true}
 use mathlib.Core.List.{List, [], ◌++◌, append-nil}
-use Prim.Native.Nat.{ℕ, ◌≤◌}
+use Prim.Native.Nat.{ℕ, ◌-◌, ◌≤◌}
 use native.Mathlib.Omega.{arith}
 use lib.Dec.{leb}
 use lib.ListN.{length, take}
@@ -90,11 +90,12 @@ module _ (g : Ledger) (w : Writable g) where
       let good = and_left (head_good l.attribute h) _ (open_card l c w.carded.opens) in
       let few = good_head l.attribute h good in
       let n = offset_few l.attribute h good in
+      let whole : criticals - 0 ≡ criticals = omega arith in
       rw e
       (reach_line (CriticalsRead l c 0) _ (frame.Card h.factor h.offset h.seeds) _ (on_card behind_lot stage.Card 0 (with_head fresh_card h))
       (card_spells _ _ _ (omega (arith, few.factor_high)) (omega arith) (omega (arith, few.seeds)))
       (simp good)
-      (record { read = record { lot = refl; card = refl; results = refl; unopened = refl; turns = (refl, refl, refl) }; last = omega arith; turn = refl }))
+      (record { read = record { lot = refl; card = rw whole refl; results = refl; unopened = refl; turns = (refl, refl, refl) }; last = omega arith; turn = refl }))
 
   ledger_is : ledger_at l read f (containers g) ≡ g
   ledger_is = λ i. record { lot = l; card = card_is i; contents = upto_all f (containers g) w.placed.outside i }

@@ -21,6 +21,7 @@ use Rattle.rules.specs.declared.Stage.TheVariants as stage
 use Rattle.rules.specs.declared.Frame.TheVariants as frame
 use Rattle.rules.proofs.Tests.{and_left, and_right}
 use Rattle.rules.proofs.CardLaws.{at_each, critical_at_lem, open_card, open_criticals, open_rows}
+use Rattle.rules.proofs.Capacity.{capacity}
 use Rattle.round_trip_theorems.proofs.Spelled.{critical_spells, range_spells}
 use Rattle.round_trip_theorems.proofs.Writable.{Carded}
 use Rattle.round_trip_theorems.proofs.Reached.{Reaches, reach_none, reach_then, reach_line}
@@ -63,7 +64,7 @@ row_small l h b e =
     let p = leb-true l h (and_left (leb l h) _ e₂) in
     let q = leb-true h most_held (and_left (leb h most_held) _ e₃) in
     let r = leb-true b highest_x (and_right (leb h most_held) _ e₃) in
-    (omega arith, omega arith, omega arith)
+    (omega (arith, capacity), omega (arith, capacity), omega arith)
 
 -- ---- what the reader has: the lot t, the card c up to N = n and its first r rows, and no result
 abbrev pub with_lists : Card → List ℕ → ℕ → Card
@@ -121,7 +122,7 @@ module _ (t : Lot) (c : Card) (w : Carded t c) where
           let set_next = ap (set (filled_to criticals c.critical n) n) e ∙ next_set criticals c.critical n h (omega arith) in
           rw (ne_eqb (get_or c.critical n 0) 0 z)
           (reach_line (CriticalsRead t c (suc n)) (critical_line n v) (frame.Critical n v) u (on_card u stage.Critical n (with_critical u.card n v))
-          (critical_spells n v (omega arith) (omega arith))
+          (critical_spells n v (omega (arith, capacity)) (omega arith))
           (simp (r.turn, le-leb least_reported n (omega arith), le-leb n most_held (omega arith), lt-ltb u.last n (omega (arith, r.last))))
           (record {
             read =

@@ -19,13 +19,14 @@ use Rattle.rules.specs.Reading.{State, read_from, read_of}
 use Rattle.rules.specs.Ledger.{Ledger, Judged, judged, opened, with_contents, fresh_ledger}
 use Rattle.rules.specs.Writing.{sheet_with, sheet_of}
 use Rattle.rules.proofs.Tests.{and_left, and_right}
-use Rattle.rules.proofs.CardLaws.{open_card, open_rows}
+use Rattle.rules.proofs.CardLaws.{open_criticals, open_rows}
+use Rattle.rules.proofs.Capacity.{capacity}
 use Rattle.reading_theorems.specs.Lengths.{longest_written, longest_read}
 use Rattle.reading_theorems.specs.Spelling.{Entry, Made}
 use Rattle.reading_theorems.specs.Spelling as spelling
 use Rattle.reading_theorems.proofs.Ready.{zero_at}
 use Rattle.writer.specs.Promise.{counted, is_filled, filled}
-use Rattle.writer.proofs.Counting.{counted_most, filled_none, filled_next}
+use Rattle.writer.proofs.Counting.{filled_few}
 use Rattle.writer.proofs.Lengths.{length_with, sheet_length}
 use Rattle.history.specs.Calls.{judge, ledger}
 use Rattle.round_trip_theorems.specs.Statement.{ReadsAs, full_lot, full_card, filling, zero_lines, weighed_sheet}
@@ -50,7 +51,7 @@ zeros_size (suc n) = omega (arith, zeros_size n)
 
 full_opens : open_number full_lot full_card ≡ 0
 unfolding criticals_good rows_good
-full_opens = refl
+full_opens = rw capacity refl
 
 filling_is : (n : ℕ) → n ≤ most_held → judge (filling n) ≡ accepted_as (full n)
 unfolding filling judge zeros
@@ -64,15 +65,15 @@ filling_is (suc n) h =
 pub calls : (n : ℕ) → n ≤ most_held → (judge (filling n)).number ≡ 0
 calls n h = ap (λ (j : Judged). j.number) (filling_is n h)
 
-full_filled : filled full_card.critical criticals ≡ 56
+full_filled : filled full_card.critical criticals ≡ criticals - least_reported
 unfolding filled
-full_filled = refl
+full_filled = rw capacity refl
 
 pub long : length (sheet_of (ledger (filling most_held))) ≡ longest_written
 unfolding zeros
 long =
     ap (λ (j : Judged). length (sheet_of j.ledger)) (filling_is most_held (omega arith))
-    ∙ omega (arith, sheet_length (full most_held), full_filled, upto_size zeros most_held most_held refl (omega arith), zeros_size most_held)
+    ∙ omega (arith, sheet_length (full most_held), full_filled, upto_size zeros most_held most_held refl (omega arith), zeros_size most_held, capacity)
 
 -- ---- what they end with can be written
 entries : ℕ → List Entry
@@ -86,31 +87,16 @@ full_made (suc n) h = spelling.enters (suc n) 0 (full_made n (omega arith)) (cal
 
 pub full_writable : Writable (ledger (filling most_held))
 full_writable =
-    made_writable full_lot full_card (entries most_held) _ (omega arith)
-    (record { full = record { critical = refl; lowest = refl; highest = refl; bound = refl; tolerated = refl }; narrow = zero_at most_rows })
+    made_writable full_lot full_card (entries most_held) _ (omega (arith, capacity))
+    (record { full = record { critical = rw capacity refl; lowest = refl; highest = refl; bound = refl; tolerated = refl }; narrow = zero_at most_rows })
     (full_made most_held (omega arith))
 
--- ---- no sheet that is written is longer: below N = 5 there is no critical value
-filled_few : (l : List ℕ) (n : ℕ) → criticals_good l n ≡ true → filled l n ≤ n - least_reported
-unfolding criticals_good
-filled_few l zero e = omega (arith, filled_none l)
-filled_few l (suc n) e =
-    rw (← add-one n) (rw (filled_next l n) (by (dec_le least_reported n) (filled_few l n (and_left (criticals_good l n) _ e))))
-  where
-    v : ℕ
-    v = get_or l n 0
-
-    by : Dec (least_reported ≤ n) → filled l n ≤ n - least_reported → filled l n + counted (is_filled v) ≤ n + 1 - least_reported
-    by (yes h) before = omega (arith, counted_most (is_filled v))
-    by (no h) before =
-        let none : eqb v 0 ≡ true = rw (lt-ltb n least_reported (omega arith)) at (and_right (criticals_good l n) (critical_good n v) e) in
-        rw none (omega arith)
-
+-- ---- no sheet that is written is longer
 pub written_few : (g : Ledger) → Writable g → length (sheet_of g) ≤ longest_written
 written_few g w =
     let d = w.carded in
-    let good = and_left (criticals_good g.card.critical criticals) _ (and_right (head_good g.lot.attribute g.card.head) _ (open_card g.lot g.card d.opens)) in
-    omega (arith, sheet_length g, filled_few g.card.critical criticals good, open_rows g.lot g.card d.opens, w.placed.small)
+    let few = filled_few g.card.critical criticals (open_criticals g.lot g.card d.opens) in
+    omega (arith, sheet_length g, few, open_rows g.lot g.card d.opens, w.placed.small, capacity)
 
 -- ---- the longest that is accepted
 full_is : ledger (filling most_held) ≡ full most_held
@@ -123,14 +109,14 @@ zeros_at k h = rw (le-leb (suc k) most_held h) refl
 pub heavy : length weighed_sheet ≡ longest_read
 heavy =
     ap (λ (g : Ledger). length (sheet_with g (zero_lines most_held))) full_is
-    ∙ omega (arith, length_with (full most_held) (zero_lines most_held), full_filled, zeros_length most_held)
+    ∙ omega (arith, length_with (full most_held) (zero_lines most_held), full_filled, zeros_length most_held, capacity)
 
 pub full_placed : Writable (full most_held)
 full_placed = subst Writable full_is full_writable
 
 pub weighed_reach : (u : State) → ResultsReadBack full_lot (read (full most_held) full_placed) (upto zeros most_held) 0 u
     → Reaches (zero_lines most_held) u (ResultsReadBack full_lot (read (full most_held) full_placed) (upto zeros most_held) most_held)
-weighed_reach u r = zeros_reach full_lot _ (upto zeros most_held) (omega arith) full_placed.placed refl zeros_at u r most_held (omega arith)
+weighed_reach u r = zeros_reach full_lot _ (upto zeros most_held) (omega (arith, capacity)) full_placed.placed refl zeros_at u r most_held (omega arith)
 
 pub weighed_on : (rest : List ℕ) → read_of (weighed_sheet ++ rest) ≡ read_from (lines_of rest) (all_reach (full most_held) full_placed _ weighed_reach).last ((all_reach (full most_held) full_placed _ weighed_reach).lines 0)
 weighed_on rest = rw full_is (read_on (full most_held) full_placed _ weighed_reach rest)

@@ -20,6 +20,7 @@ use Rattle.rules.specs.declared.Stage.TheVariants as stage
 use Rattle.rules.specs.declared.Frame.{Frame}
 use Rattle.rules.specs.declared.Frame.TheVariants as frame
 use Rattle.rules.proofs.ContentLaws.{put_same, put_other, put_self, total_put, total_none}
+use Rattle.rules.proofs.Capacity.{capacity}
 use Rattle.round_trip_theorems.proofs.Spelled.{Spells, result_spells, end_spells}
 use Rattle.round_trip_theorems.proofs.Writable.{WritableResults}
 use Rattle.round_trip_theorems.proofs.Reached.{Reaches, reach_none, reach_then, reach_line}
@@ -147,6 +148,6 @@ module _ (t : Lot) (c : Card) (f : Contents) (few : t.containers ≤ widest) (w 
   end_reach u r =
       let n = total one t.containers f in
       reach_line (Ended t c f) (end_line n) (frame.End n) u (on_ledger u stage.End u.results (ledger_at t c f t.containers))
-      (end_spells n (omega (arith, w.small)))
+      (end_spells n (omega (arith, w.small, capacity)))
       (rw (r.turns.1, r.begins, eq-eqb n u.results (sym r.count)) refl)
       (refl, refl)

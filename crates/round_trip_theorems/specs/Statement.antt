@@ -1,9 +1,9 @@
 -- Sheets are read, and written back, so that lot, card and held results return unchanged (demand 2); and how long a sheet is. Each step
 -- is what the called function's own contract promises.
-use Rattle.std.specs.Prelude.{◌≡◌, List, [], ◌++◌, ℕ, zero, suc, ◌+◌, ◌≤◌, length, take, replicate, Result, Ok}
+use Rattle.std.specs.Prelude.{◌≡◌, List, [], ◌++◌, ℕ, zero, suc, ◌+◌, ◌-◌, ◌≤◌, length, take, replicate, Result, Ok}
 use base.Fml.{Lft}
 use Rattle.std.specs.Borrow.{Bor, MutBor}
-use Rattle.rules.specs.Limits.{most_held, least_reported, most_rows, least_factor, most_digits}
+use Rattle.rules.specs.Limits.{most_held, criticals, least_reported, most_rows, least_factor, most_digits}
 use Rattle.rules.specs.Cards.{head_of, card_of}
 use Rattle.rules.specs.Ledger.{Ledger, containers}
 use Rattle.rules.specs.Lines.{lines_of}
@@ -40,7 +40,7 @@ pub record WrittenAs (w : Result ℕ Refusal) : Type 0 where
   pub is : w ≡ Ok bytes
 
 -- ---- the longest sheet that is written
--- a lot of 60 containers, and a card with a critical value for each N from 5 to 60 and with 96 rows
+-- a lot with as many containers as results are held, and a card with a critical value for each N that may have one and with the most rows
 abbrev pub full_lot : Lot
 full_lot = record { attribute = 0; containers = most_held }
 
@@ -48,7 +48,7 @@ abbrev pub full_card : Card
 full_card =
     card_of
     (head_of least_factor 0 1)
-    (replicate least_reported 0 ++ replicate 56 1)
+    (replicate least_reported 0 ++ replicate (criticals - least_reported) 1)
     most_rows
     (replicate most_rows least_reported)
     (replicate most_rows most_held)
@@ -97,13 +97,13 @@ pub record Trip : Type 0 where
   pub written : (cs : Calls) (ns : List Answer) (t : Tally) → Run cs ns t → 1 ≤ containers (ledger cs) → (κ : Lft) (b : MutBor (List ℕ)) (w : Result ℕ Refusal) (a : MutBor (List ℕ)) → longest_written ≤ length b.now → WriteStep κ t b w a → WrittenAs w
   -- by the definitions: what any sheet is read as, the sheet that is written of it is read as again
   pub again : (sheet : List ℕ) (g : Ledger) (lines : ℕ) → read_of sheet ≡ accepted g lines → ReadsAs (sheet_of g) g
-  -- no sheet that is written is longer than 2,629 bytes
+  -- no sheet that is written is longer than 5,429 bytes
   pub short : (cs : Calls) (ns : List Answer) (t : Tally) → Run cs ns t → (κ : Lft) (b : MutBor (List ℕ)) (n : ℕ) (a : MutBor (List ℕ)) → WriteStep κ t b (Ok n) a → n ≤ longest_written
   -- and one has that length: each of these calls is accepted, and the sheet of what they end with is accepted
   pub calls : (n : ℕ) → n ≤ most_held → (judge (filling n)).number ≡ 0
   pub long : length (sheet_of (ledger (filling most_held))) ≡ longest_written
   pub reached : (κ : Lft) (sheet : Bor (List ℕ)) (r : Result Reading Fault) → sheet.now ≡ sheet_of (ledger (filling most_held)) → ReadStep κ sheet r → Yields sheet.now r (ledger (filling most_held))
-  -- no sheet that is accepted is longer than 3,469 bytes
+  -- no sheet that is accepted is longer than 8,229 bytes
   pub most : (κ : Lft) (sheet : Bor (List ℕ)) (r : Reading) → ReadStep κ sheet (Ok r) → length sheet.now ≤ longest_read
   -- and one has that length, with the same lot, card and results
   pub heavy : length weighed_sheet ≡ longest_read

@@ -3,6 +3,7 @@ use mathlib.Core.List.{List, [], ◌∷◌}
 use Prim.Native.Nat.{ℕ}
 use Prim.Native.String.{String}
 use lib.Ieee.{of_fields, of_bits, to_bits}
+use Rattle.rules.specs.Limits.{most_held}
 use Rattle.rules.specs.Text.{text, decimals, decimal, last_digits, pointed}
 use Rattle.rules.specs.Contents.{total, largest, smallest}
 use Rattle.rules.specs.Cards.{rows_good, criticals_good}
@@ -34,7 +35,7 @@ pub data Told : Type 0 where
 -- What the definitions tell. To unfold it is to unfold all that it computes with, so every definition on the way to a printed byte or
 -- an answer that is not an abbrev stands here.
 unfoldable pub by_definition : List Case → List Told
-unfolding printed_for read_of read_from cut_from frame_of kind_frame lot_frame card_frame critical_frame range_frame result_frame end_frame balance_frame all_digits field_of number number_behind value_of lot_step card_step critical_step range_step result_step balance_step end_step total largest smallest rows_good criticals_good refused_line findings_text judgement_text findings_of count_line mark_text mean_line value_line lot_verdict_line lot_word limit_text verdict_word pointed decimal decimals last_digits mean_of mean_scale is_void ratio reported_h exceeds tolerated_upto nearest_of side_of weighed_of share_of tenths_of ratio_of bad_weight exact_of of_fields of_bits to_bits samples_of table2_a table2_b units_of raised difference_for
+unfolding printed_for read_of read_from cut_from frame_of kind_frame lot_frame card_frame critical_frame range_frame result_frame end_frame balance_frame all_digits field_of number number_behind value_of lot_step card_step critical_step range_step result_step balance_step end_step total largest smallest rows_good criticals_good refused_line findings_text judgement_text findings_of count_line mark_text mean_line value_line lot_verdict_line lot_word limit_text verdict_word pointed decimal decimals last_digits mean_of mean_scale is_void ratio reported_h exceeds tolerated_upto nearest_of side_of weighed_of share_of tenths_of ratio_of bad_weight exact_of of_fields of_bits to_bits samples_of table2_a table2_b units_of raised difference_for most_held
 by_definition [] = []
 by_definition (prints sheet says ∷ cs) = printed (printed_for (text sheet)) ∷ by_definition cs
 by_definition (answers call says ∷ cs) = answered call ∷ by_definition cs

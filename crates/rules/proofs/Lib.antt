@@ -23,3 +23,4 @@ pub mod PrintedMeans
 pub mod Bounds
 pub mod ListLaws
 pub mod ListedLines
+pub mod Capacity

@@ -3,6 +3,7 @@ use mathlib.Core.Path.{◌≡◌, refl}
 use mathlib.Core.List.{List, [], ◌∷◌, map}
 use Prim.Native.Nat.{ℕ}
 use Prim.Native.String.{String}
+use Rattle.rules.specs.Limits.{most_held}
 use Rattle.rules.specs.Text.{text, decimals, decimal, last_digits, pointed}
 use Rattle.rules.specs.Contents.{total}
 use Rattle.rules.specs.Cards.{head_of, card_of}
@@ -58,7 +59,7 @@ answered g (s ∷ ss) = (let r = list_on g (text s) in came r.number r.line (hel
 pub lists_answered :
     answered purity ("" ∷ "1,4\n2,5\n" ∷ "1,4\n2,5" ∷ "\n" ∷ "1,4\n1,5\n" ∷ "1,4\n71,05\n" ∷ "71,100.01\n" ∷ "0,1\n" ∷ "4294967297,1\n" ∷ "1,4\n1,100.01\n" ∷ "1,184467440737095516190\n" ∷ "1,4\n\n" ∷ [])
     ≡ came 0 0 0 ∷ came 0 0 2 ∷ came 20 2 0 ∷ came 20 1 0 ∷ came 8 2 0 ∷ came 20 2 0 ∷ came 6 1 0 ∷ came 6 1 0 ∷ came 6 1 0 ∷ came 7 2 0 ∷ came 7 1 0 ∷ came 20 2 0 ∷ []
-unfolding answered list_on enter_lines cut_from plain_of first hundredths_of percent_of say_of all_decimal value_behind decimal_value total
+unfolding answered list_on enter_lines cut_from plain_of first hundredths_of percent_of say_of all_decimal value_behind decimal_value total most_held
 lists_answered = refl
 
 -- a fresh ledger reads percentages, and has no container
@@ -68,11 +69,11 @@ fresh_answered = refl
 
 -- ---- what is written: containers ascending, two places for percentages and none for counts; nothing where nothing is held
 pub list_written : list_of (list_on purity (text "70,4\n3,98.5\n10,0.05\n2,100\n")).ledger ≡ text "2,100.00\n3,98.50\n10,0.05\n70,4.00\n"
-unfolding list_of list_lines list_line list_on enter_lines cut_from plain_of first hundredths_of percent_of say_of all_decimal value_behind decimal_value total decimal decimals pointed last_digits
+unfolding list_of list_lines list_line list_on enter_lines cut_from plain_of first hundredths_of percent_of say_of all_decimal value_behind decimal_value total decimal decimals pointed last_digits most_held
 list_written = refl
 
 pub counts_written : list_of (list_on seeds (text "70,4\n3,98\n10,0\n2,10000\n")).ledger ≡ text "2,10000\n3,98\n10,0\n70,4\n"
-unfolding list_of list_lines list_line list_on enter_lines cut_from plain_of first hundredths_of percent_of say_of all_decimal value_behind decimal_value total decimal decimals pointed last_digits
+unfolding list_of list_lines list_line list_on enter_lines cut_from plain_of first hundredths_of percent_of say_of all_decimal value_behind decimal_value total decimal decimals pointed last_digits most_held
 counts_written = refl
 
 pub fresh_written : list_of fresh_ledger ≡ []

@@ -11,6 +11,7 @@ use lib.Dec.{leb}
 use lib.ListN.{get_or}
 use borrow.Author.Tests.{le-leb, lt-leb, leb-true}
 use Rattle.rules.specs.Choice.{pick}
+use Rattle.rules.specs.Limits.{most_held}
 use Rattle.rules.specs.Attributes.{places_of_x, places_of_mean, mean_places, mean_scale}
 use Rattle.rules.specs.Figures.{mean_of, printed_mean, row_serves, tolerated_upto}
 use Rattle.rules.specs.Rows.{Serves, FirstRow, exact_mean, JustBelow, RowByPrintedMean}
@@ -19,6 +20,7 @@ use Rattle.rules.specs.declared.Attribute.TheVariants.{Purity, Germination, Coun
 use Rattle.rules.specs.declared.Card.{Card}
 use Rattle.rules.specs.declared.Figures.{Figures}
 use Rattle.rules.specs.declared.Fraction.{Fraction}
+use Rattle.rules.proofs.Capacity.{capacity}
 use Rattle.rules.proofs.Tests.{and_left, and_right, and_both}
 use Rattle.rules.proofs.RoundingLaws.{low, high}
 
@@ -162,12 +164,12 @@ never a f bound h j =
     let k : 1 ≤ f.sum - bound * f.count = omega (arith, j.below) in
     omega (arith, j.near, mul-le-mul_left (2 * mean_scale a f.count) k)
 
-scale_of_counts : (n : ℕ) → n ≤ 200 → n ≤ 2 * mean_scale Count n
+scale_of_counts : (n : ℕ) → n ≤ most_held → n ≤ 2 * mean_scale Count n
 unfolding mean_scale
 scale_of_counts n h = by (dec_le 10 n)
   where
     by : Dec (10 ≤ n) → n ≤ 2 * mean_scale Count n
-    by (yes p) = rw (le-leb 10 n p) h
+    by (yes p) = rw (le-leb 10 n p) (omega (arith, h, capacity))
     by (no p) = rw (lt-leb 10 n (omega arith)) (omega arith)
 
 scale_from_ten : (a : Attribute) (n : ℕ) → 10 ≤ n → 10 ≤ mean_scale a n

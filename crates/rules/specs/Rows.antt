@@ -1,6 +1,7 @@
 -- The row for R in words; and what it changes that it goes by the printed mean and not by the exact one, for every card and for the
 -- figures of one result and more.
 use Rattle.std.specs.Prelude.{◌≡◌, true, false, ℕ, ◌-◌, ◌*◌, ◌^◌, ◌≤◌, ◌<◌, get_or}
+use Rattle.rules.specs.Limits.{most_held}
 use Rattle.rules.specs.Attributes.{places_of_x, mean_places, mean_scale}
 use Rattle.rules.specs.Figures.{printed_mean, row_serves, tolerated_upto, tolerated_for}
 use Rattle.rules.specs.declared.Attribute.{Attribute}
@@ -48,6 +49,6 @@ pub record RowByPrintedMean : Type 0 where
   -- so on a card without such a bound the tolerated R is the one by the exact mean
   pub same : (a : Attribute) (c : Card) (f : Figures) → 1 ≤ f.count → ((k : ℕ) → k < c.rows → JustBelow a f (get_or c.bound k 0) → ⊥)
       → tolerated_for a c f ≡ tolerated_upto c f.count (exact_mean f) c.rows
-  -- no bound lies just below the mean of counts, up to 200 of them, nor of 10 to 20 results
-  pub counts : (f : Figures) (bound : ℕ) → f.count ≤ 200 → JustBelow Count f bound → ⊥
+  -- no bound lies just below the mean of counts, of as many as may be held, nor of 10 to 20 results
+  pub counts : (f : Figures) (bound : ℕ) → f.count ≤ most_held → JustBelow Count f bound → ⊥
   pub tens : (a : Attribute) (f : Figures) (bound : ℕ) → 10 ≤ f.count → f.count ≤ 20 → JustBelow a f bound → ⊥

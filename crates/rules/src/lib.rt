@@ -7,7 +7,7 @@ pub mod faults;
 pub mod refusals;
 
 // The most results that a tally holds, that a join may come to, and that N may be in a frame.
-pub const MOST_HELD: usize = 60;
+pub const MOST_HELD: usize = 200;
 
 // The fewest results that are reported, and the smallest N in a frame of the card.
 pub const LEAST_REPORTED: usize = 5;

@@ -22,7 +22,7 @@ fn same_rows(c: &Card, d: &Card, n: usize) -> bool
 }
 
 // Whether two cards are the same, places past the last row aside; a card with more rows than a card has places is no other's equal.
-#[tactic(auto, using(crate::proofs::Compared::all_places))]
+#[tactic(auto, using(crate::proofs::Compared::all_places, rules::proofs::Capacity::capacity))]
 pub fn same_card(c: &Card, d: &Card) -> bool
     ensures { result ≡ same_good c.now d.now }
 {

@@ -1,12 +1,13 @@
--- `held_lists::place_of` meets its promise: the place is the first that has the container. Assumes nothing.
-use Rattle.std.proofs.Common.{rules, tests}
-use mathlib.Core.Path.{◌≡◌}
-use Rattle.std.proofs.lemmas.Iterator.{IsFirst-from_position, YieldsList-from_slice}
-use Rattle.held_lists.proofs.Stored.{found_first}
+-- `held_lists::place_of` meets its promise: what is found behind the blocks that are passed. Assumes nothing.
+use Rattle.held_lists.proofs.Blocks.{none_behind, found_behind}
 use Rattle.held_lists.proofs.place_of.Goals as goal
+
+pub returns-in_default : goal.returns-in_default
+returns-in_default c =
+    let from = c.places_without-from in
+    none_behind c.args.containers.now from.result c.args.k from.ensures.0 from.ensures.1 c.in_default.ensures
 
 pub returns : goal.returns
 returns c =
-    found_first c.args.containers.now c.args.k _
-    (IsFirst-from_position _ _ _ (λ x. x ≡ c.args.k) (λ x. x ≡ c.args.k → ⊥) c.position.ensures.ran (YieldsList-from_slice c.args.containers.now cc)
-    (λ x q k. search (rules, tests)) (λ x q k. search (rules, tests)))
+    let from = c.places_without-from in
+    found_behind c.args.containers.now from.result c.args.k from.ensures.0 from.ensures.1 c.in-Some.at c.in-Some.ensures

@@ -6,6 +6,7 @@ use lib.ListN.{get_or, length, take}
 use lib.Seq.{get_or-take, length-take-le}
 use Rattle.rules.specs.Limits.{most_held, widest}
 use Rattle.rules.specs.Contents.{smallest, largest}
+use Rattle.rules.proofs.Capacity.{capacity}
 use Rattle.held_lists.proofs.InOrder.{smallest_turn, largest_turn, largest_in_order, range_read}
 use borrow.Author.Rules.{rules}
 use Rattle.held_lists.proofs.range_of.Goals as goal
@@ -32,7 +33,7 @@ pub returns : goal.returns
 returns c =
     let l = c.loop-x in
     let vs = c.args.results.now in
-    let n : c.min-held.result ≡ min (length vs) most_held = search rules in
+    let n : c.min-held.result ≡ min (length vs) most_held = search (rules, capacity) in
     let all : length (take c.min-held.result vs) ≡ c.min-held.result = length-take-le c.min-held.result vs (search rules) in
     let e : l.x-index ≡ c.min-held.result = omega (arith, all) in
     let low = largest_in_order widest vs c.min-held.result (λ i h. omega (arith, c.type_inv.results i)) in

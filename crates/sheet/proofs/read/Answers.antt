@@ -1,6 +1,7 @@
 -- `sheet::read` meets its contract.
 use Rattle.std.proofs.Common.{rules, ◌≡◌, refl, sym, ap, ◌∙◌, ℕ, List}
 use Rattle.rules.specs.Reading.{read_of}
+use Rattle.rules.proofs.Capacity.{capacity}
 use Rattle.tally.specs.declared.Tally.{Tally}
 use Rattle.tally.specs.Calls.{fresh_tally}
 use Rattle.sheet.specs.Promise.{read_with}
@@ -23,7 +24,7 @@ pub returns-in_err-lines : goal.returns-in_err-lines
 returns-in_err-lines c =
     let begun = c.in_ok-begin.ensures.right in
     let none = empty_still _ _ _ c.fresh-tally.ensures in
-    let end = c.in_err-lines.ensures c.in_ok-begin.begin.head.last (open_sound _ none c.in_default.ensures (search rules) (search rules)) in
+    let end = c.in_err-lines.ensures c.in_ok-begin.begin.head.last (open_sound _ none c.in_default.ensures (search (rules, capacity)) (search (rules, capacity))) in
     refused_as _ _ _ c.from_residual-in_err-lines.ensures.1
     (fault_as (start _ _ c.fresh-tally.ensures ∙ (begun ∙ sym (open_accepted _ none c.in_default.ensures _ _ _ _))) end)
 
@@ -31,7 +32,7 @@ pub returns : goal.returns
 returns c =
     let begun = c.in_ok-begin.ensures.right in
     let none = empty_still _ _ _ c.fresh-tally.ensures in
-    let end = c.in_ok-lines.ensures c.in_ok-begin.begin.head.last (open_sound _ none c.in_default.ensures (search rules) (search rules)) in
+    let end = c.in_ok-lines.ensures c.in_ok-begin.begin.head.last (open_sound _ none c.in_default.ensures (search (rules, capacity)) (search (rules, capacity))) in
     record {
       right = start _ _ c.fresh-tally.ensures ∙ (begun ∙ (sym (open_accepted _ none c.in_default.ensures _ _ _ _) ∙ end.right));
       sound = end.sound;

@@ -2,6 +2,7 @@
 use Rattle.std.proofs.Common.{sym, ◌∙◌}
 use Rattle.tally.proofs.Joining.{met_in, join_shared, join_many, join_good}
 use Rattle.tally.proofs.Tally.check_join.Goals as goal
+use Rattle.rules.proofs.Capacity.{capacity}
 
 pub returns-then-meet : goal.returns-then-meet
 returns-then-meet c =
@@ -18,7 +19,7 @@ returns-then-self-other-gt-MOST_HELD c =
     let a = c.held_containers.ensures in
     let b = c.held_containers-2.ensures in
     join_many t o (sym c.is_alike.ensures ∙ c.if-not-is_alike.false) _ (c.meet.ensures t.results ∙ met_in t o _ _ a.0 a.1 b.0 b.1) c.if-meet.false
-    c.if-self-other-gt-MOST_HELD.true
+    (rw capacity c.if-self-other-gt-MOST_HELD.true)
 
 pub returns : goal.returns
 returns c =
@@ -27,4 +28,4 @@ returns c =
     let a = c.held_containers.ensures in
     let b = c.held_containers-2.ensures in
     join_good t o (sym c.is_alike.ensures ∙ c.if-not-is_alike.false) _ (c.meet.ensures t.results ∙ met_in t o _ _ a.0 a.1 b.0 b.1) c.if-meet.false
-    c.if-self-other-gt-MOST_HELD.false
+    (rw capacity c.if-self-other-gt-MOST_HELD.false)

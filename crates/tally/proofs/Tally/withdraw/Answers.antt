@@ -2,6 +2,7 @@
 use Rattle.std.proofs.Common.{arith}
 use Rattle.tally.proofs.Steps.{found_in, withdraws, not_found}
 use Rattle.tally.proofs.Tally.withdraw.Goals as goal
+use Rattle.rules.proofs.Capacity.{capacity}
 
 pub returns-in_default : goal.returns-in_default
 returns-in_default c =
@@ -14,4 +15,4 @@ returns c =
     let found = c.in-Some.ensures in
     rw (c.saturating_sub-self.ensures, c.from.ensures, c.saturating_sub-self-2.ensures, c.squared.ensures)
     (withdraws c.args.self.now c.args.container c.in-Some.at (found_in c.args.self.now c.held_containers.result.now look.0 look.1 c.args.container c.in-Some.at found.1)
-    c.min-n.result c.min-n.ensures (omega (arith, found.0, look.1, c.min-n.ensures)))
+    c.min-n.result (rw (← capacity) at c.min-n.ensures) (omega (arith, found.0, look.1, c.min-n.ensures, capacity)))
