@@ -5,7 +5,7 @@
 //!
 //! | kind | call     | behind the two bytes |
 //! |------|----------|----------------------|
-//! | 1    | open     | six numbers of 2 bytes: attribute, N0, F, G, n, rows in use; 61 of 4 bytes: for each N from 0 the critical value + 1, or 0 for none; 96 times four numbers of 2 bytes: lowest N, highest N, mean bound, tolerated R (1,024 bytes in all) |
+//! | 1    | open     | six numbers of 2 bytes: attribute, N0, F, G, n, rows in use; 201 of 4 bytes: for each N from 0 the critical value + 1, or 0 for none; 96 times four numbers of 2 bytes: lowest N, highest N, mean bound, tolerated R (1,584 bytes in all) |
 //! | 2    | enter    | container (2), X (2) |
 //! | 3    | withdraw | container (2) |
 //! | 4    | join     | nothing; the second byte is 0 (the second tally into the first), 1 (the first into the second), 2 (the first into itself) or 3 (the second into itself) |
@@ -320,7 +320,7 @@ mod tests {
         let lot = Lot { attribute: 2, containers: 9 };
         let mut card = card();
         card.criticals[5] = Some(0);
-        card.criticals[60] = Some(70_000);
+        card.criticals[200] = Some(70_000);
         card.row_count = 97;
         card.places[95] = Row { lowest: 1, highest: 2, mean_bound: 3, tolerated: 4 };
         let calls = [
@@ -340,12 +340,12 @@ mod tests {
             Call::Write { on: 1, room: 0 },
             Call::List { on: 1, lines: vec![b'7'; 300] },
             Call::List { on: 0, lines: Vec::new() },
-            Call::WriteList { on: 0, room: 780 },
+            Call::WriteList { on: 0, room: 2_600 },
             Call::Sums { on: 1, room: 12 },
         ];
         let mut list = Vec::new();
         calls.iter().for_each(|call| call.encode(&mut list));
-        assert_eq!(list.len(), 2 + 1_024 + 6 + 4 + 8 + 14 + 8 + 304 + 4 + 4 + 4);
+        assert_eq!(list.len(), 2 + 1_584 + 6 + 4 + 8 + 14 + 8 + 304 + 4 + 4 + 4);
         let mut bytes = Bytes(&list);
         for call in calls {
             assert_eq!(Call::decode(&mut bytes), Some(call));

@@ -4,7 +4,7 @@ use crate::refusal::Refusal;
 
 /// Fewest and most results that a critical value or a range row can be for.
 pub const FEWEST_ON_CARD: u16 = 5;
-pub const MOST_ON_CARD: u16 = 60;
+pub const MOST_ON_CARD: u16 = 200;
 /// Most range rows on a card.
 pub const MOST_ROWS: usize = 96;
 /// 100 percent in hundredths; also the highest X and the highest mean bound for counts.

@@ -4,10 +4,10 @@ use crate::buffer;
 use crate::card::Attribute;
 use crate::refusal::{Fault, Refusal};
 use crate::sheet::END;
-use crate::tally::Tally;
+use crate::tally::{MOST_HELD, Tally};
 
-/// The longest list that is written: 60 lines of `65535,100.00`.
-pub const LONGEST_WRITTEN: usize = 60 * 13;
+/// The longest list that is written: a line `65535,100.00` for each result.
+pub const LONGEST_WRITTEN: usize = MOST_HELD * 13;
 
 /// A plain number, none where 16 bits do not carry it: it is above every limit then, however long it is.
 type Number = Option<u16>;

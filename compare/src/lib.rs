@@ -1,4 +1,4 @@
-//! Document 01 with points 1 to 6 of document 02 a second time, in plain Rust, and the proved library held against it.
+//! Document 01 with points 1 to 7 of document 02 a second time, in plain Rust, and the proved library held against it.
 //!
 //! The modules from `buffer` to `weights` are written from the documents alone and share nothing
 //! with the proved code. The others make sheets and calls, and compare the answers.

@@ -135,7 +135,7 @@ fn words(call: &Call) -> String {
 
 /// What the program writes for a call. It lends a report or a sheet an ample buffer.
 fn written(call: &Call, tallies: &mut [Tally; 2]) -> String {
-    let mut buf = [0; 4_096];
+    let mut buf = [0; 16_384];
     let answer = call.make(tallies, &mut buf);
     let Answer { number, behind } = answer;
     match call {

@@ -4,15 +4,15 @@ use crate::buffer;
 use crate::card::{self, Card, Lot, MOST_ROWS, Row};
 use crate::refusal::{Fault, Refusal};
 use crate::report;
-use crate::tally::Tally;
+use crate::tally::{MOST_HELD, Tally};
 use crate::weights::Weighing;
 
 /// The byte that ends a line.
 pub const END: u8 = 0x0A;
 /// The longest sheet that is written.
-pub const LONGEST_WRITTEN: usize = 2_629;
-/// The longest sheet that is accepted: all of its 60 results weighed, each 14 digits longer than it is written.
-pub const LONGEST_READ: usize = LONGEST_WRITTEN + 60 * 14;
+pub const LONGEST_WRITTEN: usize = 5_429;
+/// The longest sheet that is accepted: all of its results weighed, each 14 digits longer than it is written.
+pub const LONGEST_READ: usize = LONGEST_WRITTEN + MOST_HELD * 14;
 
 /// One line's content.
 #[derive(Clone, Copy, Debug, PartialEq, Eq)]
@@ -400,14 +400,14 @@ mod tests {
     #[test]
     fn the_longest_sheet_returns_unchanged() {
         let mut sheet = String::from("0100FFFF\n0232320001\n");
-        for n in 5..=60 {
+        for n in 5..=200 {
             sheet += &format!("03{n:02X}FFFF\n");
         }
-        sheet += &"04053C2710FFFF\n".repeat(96);
-        for container in 1..=60 {
+        sheet += &"0405C82710FFFF\n".repeat(96);
+        for container in 1..=200 {
             sheet += &format!("05{container:04X}2710\n");
         }
-        sheet += "063C\n";
+        sheet += "06C8\n";
         assert_eq!(sheet.len(), LONGEST_WRITTEN);
         let read = read(sheet.as_bytes()).unwrap();
         assert_eq!(text(&read.tally).unwrap(), sheet.as_bytes());

@@ -1,11 +1,11 @@
 //! The tally: a lot, a card and a map from container to X.
 
-use crate::card::{Attribute, Card, HIGHEST_X, Lot};
+use crate::card::{Attribute, Card, HIGHEST_X, Lot, MOST_ON_CARD};
 use crate::refusal::Refusal;
 use crate::weights::Weighing;
 
 /// Most results held.
-pub const MOST_HELD: usize = 60;
+pub const MOST_HELD: usize = MOST_ON_CARD as usize;
 
 /// One result: X of a container.
 #[derive(Clone, Copy, Debug, PartialEq, Eq)]
@@ -193,7 +193,7 @@ mod tests {
         tally
     }
 
-    const GOOD: Row = Row { lowest: 5, highest: 60, mean_bound: 10_000, tolerated: 65_535 };
+    const GOOD: Row = Row { lowest: 5, highest: 200, mean_bound: 10_000, tolerated: 65_535 };
 
     #[test]
     fn a_fresh_tally_answers_as_the_document_says() {
@@ -225,38 +225,38 @@ mod tests {
 
     #[test]
     fn enter_gives_the_lowest_number() {
-        let mut tally = opened(60);
-        for container in 1..=60 {
+        let mut tally = opened(200);
+        for container in 1..=200 {
             assert_eq!(tally.enter(container, 10_000), Ok(()));
         }
-        assert_eq!(tally.enter(61, 10_001), Err(Refusal::NoSuchContainer));
-        assert_eq!(tally.enter(60, 10_001), Err(Refusal::ResultTooHigh));
-        assert_eq!(tally.enter(60, 0), Err(Refusal::AlreadyHeld));
-        let mut wide = opened(61);
-        for container in 1..=60 {
+        assert_eq!(tally.enter(201, 10_001), Err(Refusal::NoSuchContainer));
+        assert_eq!(tally.enter(200, 10_001), Err(Refusal::ResultTooHigh));
+        assert_eq!(tally.enter(200, 0), Err(Refusal::AlreadyHeld));
+        let mut wide = opened(201);
+        for container in 1..=200 {
             assert_eq!(wide.enter(container, 0), Ok(()));
         }
-        assert_eq!(wide.enter(61, 0), Err(Refusal::Full));
+        assert_eq!(wide.enter(201, 0), Err(Refusal::Full));
         assert_eq!(wide.withdraw(30), Ok(()));
-        assert_eq!(wide.enter(61, 0), Ok(()));
+        assert_eq!(wide.enter(201, 0), Ok(()));
     }
 
     #[test]
     fn join_gives_the_lowest_number() {
-        let mut left = opened(100);
-        let mut right = opened(100);
-        for container in 1..=31 {
+        let mut left = opened(300);
+        let mut right = opened(300);
+        for container in 1..=101 {
             left.enter(container, 0).unwrap();
-            right.enter(100 - container, 0).unwrap();
+            right.enter(300 - container, 0).unwrap();
         }
         assert_eq!(left.join(&right), Err(Refusal::TooManyTogether));
-        right.withdraw(99).unwrap();
+        right.withdraw(299).unwrap();
         right.enter(1, 0).unwrap();
         assert_eq!(left.join(&right), Err(Refusal::SharedContainer));
         right.withdraw(1).unwrap();
-        right.withdraw(98).unwrap();
+        right.withdraw(298).unwrap();
         assert_eq!(left.join(&right), Ok(()));
-        assert_eq!(left.held().len(), 60);
+        assert_eq!(left.held().len(), 200);
         let same = left.clone();
         assert_eq!(left.join(&same), Err(Refusal::SharedContainer));
     }

@@ -183,13 +183,13 @@ fn a_line_is_20_then_6_7_8_9() {
     assert_eq!(number(0, "0,100.01"), 6);
     assert_eq!(number(0, "41,100.01"), 6);
     assert_eq!(number(0, "40,100"), 0);
-    let mut tally = opened_with(0, 61);
-    for container in 1..=60 {
+    let mut tally = opened_with(0, 201);
+    for container in 1..=200 {
         tally.enter(container, 0).expect("it has a place");
     }
     let full = tally.clone();
     for (line, number) in
-        [("60,05", 20), ("62,100.01", 6), ("60,100.01", 7), ("60,5", 8), ("61,100.01", 7), ("61,5", 9)]
+        [("200,05", 20), ("202,100.01", 6), ("200,100.01", 7), ("200,5", 8), ("201,100.01", 7), ("201,5", 9)]
     {
         assert_eq!(entered(&mut tally, &format!("{line}\n")), (number, 1), "{line}");
         assert_eq!(tally, full);
@@ -232,13 +232,13 @@ fn a_refused_list_leaves_the_tally() {
 }
 
 #[test]
-fn the_sixty_first_result_is_full() {
+fn the_two_hundred_and_first_result_is_full() {
     let lines = |last: u16| (1..=last).map(|container| format!("{container},1\n")).collect::<String>();
-    let mut tally = opened_with(2, 61);
-    assert_eq!(entered(&mut tally, &lines(61)), (9, 61));
+    let mut tally = opened_with(2, 201);
+    assert_eq!(entered(&mut tally, &lines(201)), (9, 201));
     assert!(tally.held().is_empty());
-    assert_eq!(entered(&mut tally, &lines(60)), (0, 0));
-    assert_eq!(tally.held().len(), 60);
+    assert_eq!(entered(&mut tally, &lines(200)), (0, 0));
+    assert_eq!(tally.held().len(), 200);
 }
 
 #[test]
@@ -278,8 +278,8 @@ fn a_list_goes_by_the_rules_for_the_buffer() {
 fn a_written_list_comes_back_as_held() {
     for attribute in [0, 1, 2] {
         let mut tally = opened_with(attribute, 65_535);
-        for at in 0..60 {
-            tally.enter(65_535 - 1_000 * at, (at * 1_009) % 10_001).expect("it has a place");
+        for at in 0..200 {
+            tally.enter(65_535 - 300 * at, (at * 301) % 10_001).expect("it has a place");
         }
         let list = comma::text(&tally);
         assert!(list.len() <= comma::LONGEST_WRITTEN);

@@ -14,10 +14,10 @@ fn tally(attribute: u16, xs: &[u16], bounds: &[u16]) -> Tally {
     let seeds = if attribute == COUNT { 0 } else { 1_000 };
     let mut card = Card { factor: 10, offset: 10, seeds, row_count: bounds.len(), ..Card::default() };
     for ((place, &mean_bound), tolerated) in card.places.iter_mut().zip(bounds).zip(1..) {
-        *place = Row { lowest: 5, highest: 60, mean_bound, tolerated };
+        *place = Row { lowest: 5, highest: 200, mean_bound, tolerated };
     }
     let mut tally = Tally::fresh();
-    tally.open(&Lot { attribute, containers: 60 }, &card).expect("a good lot and card");
+    tally.open(&Lot { attribute, containers: 200 }, &card).expect("a good lot and card");
     for (container, &x) in (1..).zip(xs) {
         tally.enter(container, x).expect("a good result");
     }
@@ -76,6 +76,8 @@ fn from_ten_results_three_places_decide() {
         report_as(attribute, (41, 9_800, 2), &[9_800], "98.000", "0.01"); // 98.00049
         report_as(attribute, (60, 9_800, 2), &[9_800], "98.000", "0.01"); // 98.00033
         report_as(attribute, (60, 9_800, 3), &[9_800], "98.001", "none"); // 98.0005
+        report_as(attribute, (200, 9_800, 9), &[9_800], "98.000", "0.01"); // 98.00045
+        report_as(attribute, (200, 9_800, 10), &[9_800], "98.001", "none"); // 98.0005
     }
 }
 
@@ -87,6 +89,8 @@ fn counts_are_never_rounded_down_to_a_bound() {
     report_as(COUNT, (9, 10, 0), &[10], "10.0", "1");
     report_as(COUNT, (60, 10, 1), &[10], "10.02", "none");
     report_as(COUNT, (60, 10, -1), &[10], "9.98", "1");
+    report_as(COUNT, (200, 10, 1), &[10], "10.01", "none"); // 10.005
+    report_as(COUNT, (200, 10, -1), &[10], "10.00", "1"); // 9.995
 }
 
 #[test]
@@ -103,7 +107,7 @@ fn the_row_is_for_its_numbers_of_results() {
     let mut card = *tally(PURITY, &[], &[9_800, 9_800, 9_800]).card();
     (card.places[0].highest, card.places[1].lowest, card.places[2].lowest) = (5, 7, 6);
     let mut tally = Tally::fresh();
-    tally.open(&Lot { attribute: PURITY, containers: 60 }, &card).expect("a good lot and card");
+    tally.open(&Lot { attribute: PURITY, containers: 200 }, &card).expect("a good lot and card");
     for (container, row) in (1..=8).zip([None, None, None, None, Some(1), Some(3), Some(2), Some(2)]) {
         tally.enter(container, 9_800).expect("a good result");
         assert_eq!(report::row(&tally).map(|row| row.tolerated), row);
@@ -121,6 +125,7 @@ fn void_goes_by_the_exact_mean() {
     report_as(GERMINATION, (5, 9_900, 2), &[9_900], "99.00", "void");
     report_as(GERMINATION, (5, 100, -2), &[100], "1.00", "void");
     report_as(COUNT, (60, 2, -1), &[2], "1.98", "void");
+    report_as(COUNT, (200, 2, -1), &[2], "2.00", "void"); // 1.995
     let five = report::text(&tally(PURITY, &results(5, 9_980, 2), &[9_980]));
     assert_eq!(five, Ok("N 5\nMEAN 99.80+\nH void\nR void\nLOT void\n".into()));
 }
@@ -130,7 +135,7 @@ fn void_goes_by_the_exact_mean() {
 #[test]
 fn the_printed_digits_decide() {
     for (attribute, whole, places) in [(PURITY, 9_800, 2), (GERMINATION, 5_000, 2), (COUNT, 70, 0)] {
-        for held in 5..=60 {
+        for held in 5..=200 {
             for more in -61..=61 {
                 let (mean, row) = mean_and_row(attribute, &results(held, whole, more), &[whole]);
                 let (_, fraction) = mean.split_once('.').expect("a mean has a point");

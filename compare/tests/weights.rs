@@ -184,21 +184,21 @@ fn a_weigh_answers_in_its_order() {
         assert_eq!(opened(attribute, 5).weigh(0, &unsteady), Err(Refusal::OutOfTurn));
         assert_eq!(opened(attribute, 5).weigh(1, &good), Err(Refusal::OutOfTurn));
     }
-    let mut tally = opened(0, 100);
-    for container in 1..=59 {
+    let mut tally = opened(0, 300);
+    for container in 1..=199 {
         assert_eq!(tally.enter(container, 0), Ok(()));
     }
     assert_eq!(tally.weigh(0, &unsteady), Err(Refusal::NoSuchContainer));
-    assert_eq!(tally.weigh(101, &unsteady), Err(Refusal::NoSuchContainer));
-    assert_eq!(tally.weigh(59, &unsteady), Err(Refusal::AlreadyHeld));
-    assert_eq!(tally.weigh(60, &unsteady), Err(Refusal::NotSteady));
-    assert_eq!(tally.weigh(60, &bad), Err(Refusal::BadWeight));
-    assert_eq!(tally.weigh(60, &good), Ok(()));
-    assert_eq!(tally.held()[59], Held { container: 60, x: 3_333 });
-    assert_eq!(tally.weigh(60, &unsteady), Err(Refusal::AlreadyHeld));
-    assert_eq!(tally.weigh(61, &unsteady), Err(Refusal::Full));
-    assert_eq!(tally.withdraw(60), Ok(()));
-    assert_eq!(tally.weigh(61, &good), Ok(()));
+    assert_eq!(tally.weigh(301, &unsteady), Err(Refusal::NoSuchContainer));
+    assert_eq!(tally.weigh(199, &unsteady), Err(Refusal::AlreadyHeld));
+    assert_eq!(tally.weigh(200, &unsteady), Err(Refusal::NotSteady));
+    assert_eq!(tally.weigh(200, &bad), Err(Refusal::BadWeight));
+    assert_eq!(tally.weigh(200, &good), Ok(()));
+    assert_eq!(tally.held()[199], Held { container: 200, x: 3_333 });
+    assert_eq!(tally.weigh(200, &unsteady), Err(Refusal::AlreadyHeld));
+    assert_eq!(tally.weigh(201, &unsteady), Err(Refusal::Full));
+    assert_eq!(tally.withdraw(200), Ok(()));
+    assert_eq!(tally.weigh(201, &good), Ok(()));
 }
 
 /// What lotreport prints for the given lines behind lot and card.
@@ -249,27 +249,27 @@ fn a_frame_of_a_weighing_is_judged_in_its_order() {
     assert_eq!(refused(&["07000100000000000000000a"]), "REFUSED 1 3\n");
 }
 
-/// The largest card and 60 weighed results, which are written back as results.
+/// The largest card and 200 weighed results, which are written back as results.
 #[test]
 fn the_longest_sheet_is_read() {
     let mut head = String::from("0100FFFF\n0232320001\n");
-    for n in 5..=60 {
+    for n in 5..=200 {
         head += &format!("03{n:02X}FFFF\n");
     }
-    head += &"04053C2710FFFF\n".repeat(96);
+    head += &"0405C82710FFFF\n".repeat(96);
     let lines = |kind: &str, fields: &str| -> String {
-        (1..=60).map(|container| format!("{kind}{container:04X}{fields}\n")).collect()
+        (1..=200).map(|container| format!("{kind}{container:04X}{fields}\n")).collect()
     };
-    let weighed = head.clone() + &lines("07", "004479FFFF007FFFFF") + "063C\n";
-    let entered = head + &lines("05", "2710") + "063C\n";
+    let weighed = head.clone() + &lines("07", "004479FFFF007FFFFF") + "06C8\n";
+    let entered = head + &lines("05", "2710") + "06C8\n";
     assert_eq!((weighed.len(), entered.len()), (LONGEST_READ, LONGEST_WRITTEN));
-    assert_eq!(LONGEST_READ, 3_469);
+    assert_eq!(LONGEST_READ, 8_229);
     let read = sheet::read(weighed.as_bytes()).expect("a good sheet");
     assert_eq!(sheet::text(&read.tally), Ok(entered.clone().into_bytes()));
     let mut buf = [0; LONGEST_WRITTEN];
     assert_eq!(sheet::rewrite(weighed.as_bytes(), &mut buf), Ok(LONGEST_WRITTEN));
     assert_eq!(buf, entered.as_bytes());
-    // A 61st is 9, whatever it weighs.
-    let more = weighed.replace("063C\n", "07FFFFFF8000000080000000\n063C\n");
-    assert_eq!(sheet::printed(more.as_bytes()), "REFUSED 9 215\n");
+    // A 201st is 9, whatever it weighs.
+    let more = weighed.replace("06C8\n", "07FFFFFF8000000080000000\n06C8\n");
+    assert_eq!(sheet::printed(more.as_bytes()), "REFUSED 9 495\n");
 }

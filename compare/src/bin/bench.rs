@@ -9,7 +9,7 @@ use std::hint::black_box;
 use std::time::Instant;
 
 use compare::calls::Call;
-use compare::card::Row;
+use compare::card::{MOST_ON_CARD, Row};
 use compare::comma;
 use compare::generate::entry::Entry;
 use compare::generate::plan::Plan;
@@ -18,34 +18,40 @@ use compare::ours::Ours;
 use compare::prng::Prng;
 use compare::sheet::LONGEST_WRITTEN;
 use compare::subject::{Independent, Subject};
+use compare::tally::MOST_HELD;
 
 /// Rounds taken for each measurement, ours and the independent one in turn: many short ones, so that
 /// some of them run without another program in between.
 const ROUNDS: usize = 250;
 /// Sheets that are judged one after the other: as many different ones as make the processor's guesses those of a day's work.
 const SHEETS: usize = 64;
+/// How many results the lists and sheets have of which only the results grow.
+const SIZES: [usize; 4] = [5, 20, 60, MOST_HELD];
 /// About how long one round takes.
 const ROUND_NANOSECONDS: f64 = 4e5;
 
 fn main() {
     println!("{:54} {:>9} {:>12} {:>6}", "nanoseconds a call", "ours", "independent", "ratio");
     let mut prng = Prng::new(1);
-    let full: Vec<_> = (0..SHEETS).map(|_| Plan::full(&mut prng)).collect();
-    sheet_line("60 results, 96 rows, 56 critical values", &full);
-    sheet_line("the same, one sheet again and again", &full[..1]);
-    // What is weighed has a seed of its own: the other sheets stay those of earlier measurements.
     let mut balance = Prng::new(2);
-    let weighed: Vec<_> = (0..SHEETS).map(|_| Plan::full_weighed(&mut balance)).collect();
-    sheet_line("60 weighed, 96 rows, 56 critical values", &weighed);
+    for held in [60, MOST_HELD] {
+        let criticals = held - 4;
+        let full: Vec<_> = (0..SHEETS).map(|_| Plan::filled(&mut prng, held)).collect();
+        sheet_line(&format!("{held} results, 96 rows, {criticals} critical values"), &full);
+        sheet_line("the same, one sheet again and again", &full[..1]);
+        // What is weighed has a seed of its own.
+        let weighed: Vec<_> = (0..SHEETS).map(|_| Plan::filled_weighed(&mut balance, held)).collect();
+        sheet_line(&format!("{held} weighed, 96 rows, {criticals} critical values"), &weighed);
+    }
     println!();
-    for held in [5, 20, 60] {
+    for held in SIZES {
         let plans: Vec<_> = (0..SHEETS).map(|_| plain(&mut prng, held)).collect();
         sheet_line(&format!("{held} results, 1 row, 1 critical value"), &plans);
     }
     println!();
     // So have comma lists.
     let mut commas = Prng::new(3);
-    for lines in [5, 20, 60] {
+    for lines in SIZES {
         enter_list_line(&mut commas, lines);
     }
     println!();
@@ -58,10 +64,10 @@ fn main() {
 fn plain(prng: &mut Prng, held: usize) -> Plan {
     let mut plan = Plan::with_results(prng, held);
     plan.lot.attribute = 0;
-    plan.lot.containers = 1_000;
+    plan.lot.containers = 16 * MOST_HELD as u16;
     (plan.factor, plan.offset, plan.seeds) = (11, 11, 1_000);
     plan.criticals = vec![(held as u16, 155)];
-    plan.rows = vec![Row { lowest: 5, highest: 60, mean_bound: 10_000, tolerated: 200 }];
+    plan.rows = vec![Row { lowest: 5, highest: MOST_ON_CARD, mean_bound: 10_000, tolerated: 200 }];
     for (place, result) in plan.results.iter_mut().enumerate() {
         *result = Entry::entered(1 + place as u16 * 16, 9_800 - prng.below(200) as u16);
     }
@@ -144,9 +150,12 @@ fn list_lines(prng: &mut Prng, balance: &mut Prng) {
     println!(
         "one call on a tally: a list of calls with it many times less the list without, by their number"
     );
-    let full = Plan::full(prng);
-    call_line("open     96 rows, 56 critical values", 20, &[], &vec![open(0, &full); 20].concat());
-    for held in [5, 20, 60] {
+    for held in [60, MOST_HELD] {
+        let full = Plan::filled(prng, held);
+        let name = format!("open     96 rows, {} critical values", held - 4);
+        call_line(&name, 20, &[], &vec![open(0, &full); 20].concat());
+    }
+    for held in SIZES {
         let plan = plain(prng, held);
         single_lines(&plan, balance);
         several_lines(&plan);
@@ -190,8 +199,11 @@ fn text_lines(plan: &Plan) {
     let entered = [open(0, plan), enters(0, &plan.results)].concat();
     let texts = [
         (format!("report   {held} held"), Call::Report { on: 0, room: 100 }),
-        (format!("write    {held} held, 1 row, 1 critical value"), Call::Write { on: 0, room: 1_000 }),
-        (format!("writelist {held} held"), Call::WriteList { on: 0, room: 1_000 }),
+        (
+            format!("write    {held} held, 1 row, 1 critical value"),
+            Call::Write { on: 0, room: LONGEST_WRITTEN as u16 },
+        ),
+        (format!("writelist {held} held"), Call::WriteList { on: 0, room: comma::LONGEST_WRITTEN as u16 }),
     ];
     for (name, call) in texts {
         let written = [entered.clone(), vec![call; 100]].concat();

@@ -50,13 +50,14 @@ pub fn sheet_and_tally(prng: &mut Prng) -> (Vec<u8>, Tally) {
 fn with_room(prng: &mut Prng) -> Plan {
     let held = match prng.below(3) {
         0 => 0,
-        1 => prng.pick(&[1, 5, 40, MOST_HELD - 2, MOST_HELD - 1, MOST_HELD]),
+        1 => prng.pick(&[1, 5, 40, 60, MOST_HELD - 2, MOST_HELD - 1, MOST_HELD]),
         _ => prng.below(MOST_HELD + 1),
     };
     let make = if prng.once_in(4) { Plan::weighed } else { Plan::judged };
     let mut plan = make(prng, held);
     if !prng.once_in(3) {
-        plan.lot.containers = plan.lot.containers.max(prng.pick(&[61, 70, 255, 1_000, 65_535]));
+        plan.lot.containers =
+            plan.lot.containers.max(prng.pick(&[61, MOST_HELD as u16 + 1, 255, 1_000, 65_535]));
     }
     plan
 }

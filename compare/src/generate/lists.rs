@@ -50,7 +50,8 @@ pub fn list(prng: &mut Prng, form: Form) -> List {
     if prng.once_in(2) {
         // Few containers, so that the two tallies meet often.
         let least = plan.results.iter().map(|entry| entry.container).max().unwrap_or(1);
-        plan.lot.containers = least.max(prng.pick(&[5, 20, 61, 70, 120]));
+        plan.lot.containers =
+            least.max(prng.pick(&[5, 20, 61, 120, MOST_HELD as u16 + 1, 2 * MOST_HELD as u16]));
     }
     if form == Form::Text {
         let kept = prng.below(plan.criticals.len() + 1);
@@ -74,7 +75,7 @@ fn some_plan(prng: &mut Prng) -> Plan {
     if prng.once_in(3) {
         return Plan::close(prng);
     }
-    let held = prng.pick(&[0, 1, 5, 20, 60]);
+    let held = prng.pick(&[0, 1, 5, 20, 60, 60, MOST_HELD]);
     // Every other list is of purity, so that what is weighed can be held.
     if prng.once_in(2) { Plan::weighed(prng, held) } else { Plan::judged(prng, held) }
 }
@@ -150,7 +151,7 @@ impl Followed<'_> {
             3 => card.offset = prng.pick(&[0, 50, 51, 65_535]),
             4 => card.seeds = prng.pick(&[0, 1, 1_000, 1_001, 65_535]),
             5 => {
-                let n = prng.pick(&[0, 1, 4, 5, 6, 59, 60]);
+                let n = prng.pick(&[0, 1, 4, 5, 6, 60, MOST_HELD - 1, MOST_HELD]);
                 if self.form == Form::Text {
                     card.criticals = Card::default().criticals;
                 }
@@ -212,15 +213,22 @@ impl Followed<'_> {
         self.make(Call::List { on, lines });
     }
 
-    /// Enters or weighs until a number close to 60, or to 60 for both together, is held.
+    /// Enters or weighs until a number close to the most, or to the most for both together, is held.
     fn fill(&mut self, on: usize) {
         let other = self.tallies[1 - on].held().len();
-        let wanted =
-            self.prng.pick(&[5, 30, 31, 58, 59, MOST_HELD, MOST_HELD - other, MOST_HELD + 1 - other]);
+        let wanted = self.prng.pick(&[
+            5,
+            MOST_HELD / 2,
+            MOST_HELD / 2 + 1,
+            MOST_HELD - 1,
+            MOST_HELD,
+            MOST_HELD - other,
+            MOST_HELD + 1 - other,
+        ]);
         // The two tallies fill from either end, and so share nothing at first.
         let last = self.tallies[on].lot().containers;
         let free = |tally: &Tally, container| tally.held().iter().all(|held| held.container != container);
-        for step in 0..last.min(130) {
+        for step in 0..last.min(2 * MOST_HELD as u16 + 10) {
             if self.tallies[on].held().len() >= wanted {
                 break;
             }
@@ -296,8 +304,8 @@ fn change_row(prng: &mut Prng, card: &mut Card) {
     let place = if prng.once_in(4) { 0 } else { prng.below(card.row_count.clamp(1, MOST_ROWS)) };
     let row = &mut card.places[place];
     match prng.below(4) {
-        0 => row.lowest = prng.pick(&[0, 4, 5, 6, 60, 65_535]),
-        1 => row.highest = prng.pick(&[4, 5, 60, 61, 65_535]),
+        0 => row.lowest = prng.pick(&[0, 4, 5, 6, MOST_HELD as u16, 65_535]),
+        1 => row.highest = prng.pick(&[4, 5, 61, MOST_HELD as u16, MOST_HELD as u16 + 1, 65_535]),
         2 => row.mean_bound = prng.pick(&[0, HIGHEST_X, HIGHEST_X + 1, 65_535]),
         _ => row.tolerated = prng.pick(&[0, 1, 65_535]),
     }

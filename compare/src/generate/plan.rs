@@ -1,6 +1,6 @@
 //! A plan: the values of a sheet before they are written, good ones or not.
 
-use crate::card::{Card, HIGHEST_X, Lot, MOST_ROWS, Row};
+use crate::card::{Card, HIGHEST_X, Lot, MOST_ON_CARD, MOST_ROWS, Row};
 use crate::generate::entry::{Balance, Entry};
 use crate::generate::weighings;
 use crate::prng::Prng;
@@ -9,7 +9,7 @@ use crate::sheet::Frame;
 use crate::tally::{MOST_HELD, Tally};
 
 /// Numbers of containers in a lot that lie at some limit.
-const LOT_SIZES: [u16; 12] = [1, 4, 5, 6, 15, 40, 59, 60, 61, 255, 256, 65_535];
+const LOT_SIZES: [u16; 12] = [1, 4, 5, 6, 15, 40, 60, MOST_ON_CARD, MOST_ON_CARD + 1, 255, 256, 65_535];
 
 #[derive(Clone, Debug)]
 pub struct Plan {
@@ -118,7 +118,7 @@ impl Plan {
     /// as the rounding of the printed mean reaches. Its rows have that number for a bound, or one close by.
     pub fn close(prng: &mut Prng) -> Self {
         let attribute = prng.pick(&[0, 0, 1, 1, 2]);
-        let held = prng.pick(&[5, 6, 7, 8, 9, 10, 19, 20, 21, 39, 40, 41, 59, 60]);
+        let held = prng.pick(&[5, 6, 7, 8, 9, 10, 19, 20, 21, 39, 40, 41, 60, 100, MOST_HELD - 1, MOST_HELD]);
         let mut plan = Self::of_attribute(prng, attribute, held);
         let limits = [[20, 9_980], [100, 9_900], [2, 2]][usize::from(attribute)];
         let whole = if prng.once_in(3) { prng.pick(&limits) } else { prng.within(0..=HIGHEST_X) };
@@ -136,18 +136,28 @@ impl Plan {
         plan
     }
 
-    /// The largest good sheet that is written: every critical value, 96 rows and 60 results.
+    /// The largest good sheet that is written: every critical value, and the most rows and results.
     pub fn full(prng: &mut Prng) -> Self {
-        let mut plan = Self::with_results(prng, MOST_HELD);
-        plan.fill_card(prng);
+        Self::filled(prng, MOST_HELD)
+    }
+
+    /// A good sheet with so many results, a critical value for each N up to that, and the most rows.
+    pub fn filled(prng: &mut Prng, held: usize) -> Self {
+        let mut plan = Self::with_results(prng, held);
+        plan.fill_card(prng, held as u16);
         plan
     }
 
     /// The largest good sheet that is read: the same with all results weighed.
     pub fn full_weighed(prng: &mut Prng) -> Self {
-        let mut plan = Self::of_attribute(prng, 0, MOST_HELD);
+        Self::filled_weighed(prng, MOST_HELD)
+    }
+
+    /// A good sheet of so many weighed results, with such a card.
+    pub fn filled_weighed(prng: &mut Prng, held: usize) -> Self {
+        let mut plan = Self::of_attribute(prng, 0, held);
         plan.weigh(prng, 1, weighings::of_share);
-        plan.fill_card(prng);
+        plan.fill_card(prng, held as u16);
         plan
     }
 
@@ -171,11 +181,11 @@ impl Plan {
         self.add_rows(prng, rows);
     }
 
-    /// Adds every critical value and 96 rows.
-    fn fill_card(&mut self, prng: &mut Prng) {
+    /// Adds every critical value for up to so many results, and the most rows.
+    fn fill_card(&mut self, prng: &mut Prng, most: u16) {
         self.add_criticals(prng);
         let near = self.criticals.clone();
-        self.criticals = (5..=60)
+        self.criticals = (5..=most)
             .map(|n| (n, near.iter().find(|critical| critical.0 == n).map_or(n * 7, |critical| critical.1)))
             .collect();
         self.add_rows(prng, MOST_ROWS);
@@ -209,9 +219,13 @@ impl Plan {
             2 => prng.pick(&[0, 1, 65_534, 65_535]),
             _ => value,
         };
-        let mut ns: Vec<u16> = (5..=60).filter(|_| prng.once_in(12)).collect();
+        let mut ns: Vec<u16> = (5..=MOST_ON_CARD).filter(|_| prng.once_in(24)).collect();
         if !prng.once_in(6) {
-            ns.extend([held.saturating_sub(1), held, held + 1].into_iter().filter(|n| (5..=60).contains(n)));
+            ns.extend(
+                [held.saturating_sub(1), held, held + 1]
+                    .into_iter()
+                    .filter(|n| (5..=MOST_ON_CARD).contains(n)),
+            );
         }
         if prng.once_in(8) {
             ns.retain(|&n| n != held);
@@ -224,15 +238,17 @@ impl Plan {
 
     /// Adds rows whose bounds lie close to N, the mean and R.
     pub fn add_rows(&mut self, prng: &mut Prng, rows: usize) {
-        let held = (self.results.len() as u16).clamp(5, 60);
+        let held = (self.results.len() as u16).clamp(5, MOST_ON_CARD);
         let xs = || self.results.iter().map(Entry::x);
         let sum: usize = xs().map(usize::from).sum();
         let mean = (sum / self.results.len().max(1)) as u16;
         let range = xs().max().unwrap_or(0) - xs().min().unwrap_or(0);
         self.rows = (0..rows)
             .map(|_| {
-                let lowest = prng.pick(&[5, held - 1, held, held, held + 1, 60]).clamp(5, 60);
-                let highest = prng.pick(&[5, held - 1, held, held + 1, 60, 60]).clamp(lowest, 60);
+                let lowest =
+                    prng.pick(&[5, held - 1, held, held, held + 1, MOST_ON_CARD]).clamp(5, MOST_ON_CARD);
+                let highest =
+                    prng.pick(&[5, held - 1, held, held + 1, 60, MOST_ON_CARD]).clamp(lowest, MOST_ON_CARD);
                 let mean_bound =
                     prng.pick(&[mean.saturating_sub(1), mean, mean, mean.saturating_add(1), 0, HIGHEST_X]);
                 let tolerated = prng.pick(&[

@@ -1,6 +1,6 @@
 //! Sheets: good ones, ones with a wrong value, out of order, damaged, and mere bytes.
 
-use crate::card::{HIGHEST_X, Lot, MOST_ROWS, Row};
+use crate::card::{HIGHEST_X, Lot, MOST_ON_CARD, MOST_ROWS, Row};
 use crate::generate::entry::Entry;
 use crate::generate::plan::Plan;
 use crate::generate::weighings;
@@ -97,7 +97,12 @@ pub fn sheet(prng: &mut Prng, kind: Kind) -> Vec<u8> {
 
 /// How many results a good sheet has; each number is reached.
 fn number_held(prng: &mut Prng) -> usize {
-    if prng.once_in(3) { prng.pick(&[5, 9, 10, 11, 59, MOST_HELD]) } else { 5 + prng.below(MOST_HELD - 4) }
+    match prng.below(6) {
+        0 | 1 => prng.pick(&[5, 9, 10, 11, 60, 61, MOST_HELD - 1, MOST_HELD]),
+        // Sheets of fewer results show most of what can go wrong, and take less time.
+        2..=4 => 5 + prng.below(56),
+        _ => 5 + prng.below(MOST_HELD - 4),
+    }
 }
 
 /// A good plan of any attribute.
@@ -141,10 +146,13 @@ fn spoil(prng: &mut Prng, plan: &mut Plan) {
             // More rows than a card takes; the last of them sometimes bad.
             plan.add_rows(prng, MOST_ROWS + 1);
             if prng.once_in(2) {
-                plan.rows[MOST_ROWS].lowest = prng.pick(&[0, 4, 5, 61, 255]);
+                plan.rows[MOST_ROWS].lowest = prng.pick(&[0, 4, 5, MOST_ON_CARD + 1, 255]);
             }
         }
-        9 => plan.count = Some(prng.pick(&[0, 4, 5, 59, 60, 61, 255, plan.results.len() as u16 + 1])),
+        9 => {
+            let one_more = plan.results.len() as u16 + 1;
+            plan.count = Some(prng.pick(&[0, 4, 5, 60, MOST_ON_CARD, MOST_ON_CARD + 1, 255, one_more]));
+        }
         10 => plan.count = (plan.results.len() as u16).checked_sub(1),
         _ => spoil_results(prng, plan),
     }
@@ -155,14 +163,16 @@ fn spoil_criticals(prng: &mut Prng, plan: &mut Plan) {
     match prng.below(4) {
         // A first or last frame at or past the limits of N.
         0 => plan.criticals.insert(0, (prng.pick(&[0, 4, 5]), value)),
-        1 => plan.criticals.push((prng.pick(&[60, 61, 62, 255]), value)),
+        1 => {
+            plan.criticals.push((prng.pick(&[MOST_ON_CARD, MOST_ON_CARD + 1, MOST_ON_CARD + 2, 255]), value))
+        }
         // A frame that does not rise.
         _ if !plan.criticals.is_empty() => {
             let place = prng.below(plan.criticals.len());
             let n = plan.criticals[place].0;
             plan.criticals.insert(place + 1, (n.saturating_sub(prng.below(2) as u16), value));
         }
-        _ => plan.criticals.push((prng.near(&[5, 60]), value)),
+        _ => plan.criticals.push((prng.near(&[5, MOST_ON_CARD]), value)),
     }
 }
 
@@ -175,16 +185,17 @@ fn spoil_rows(prng: &mut Prng, plan: &mut Plan) {
     let row = &mut plan.rows[place];
     match prng.below(5) {
         0 => row.lowest = prng.pick(&[0, 4, 5]),
-        1 => row.highest = prng.pick(&[60, 61, 255]),
+        1 => row.highest = prng.pick(&[60, 61, MOST_ON_CARD, MOST_ON_CARD + 1, 255]),
         2 => row.lowest = row.highest.saturating_add(1),
         3 => row.mean_bound = prng.pick(&[HIGHEST_X, HIGHEST_X + 1, 65_535]),
-        _ => *row = Row { lowest: 60, highest: 5, ..*row },
+        _ => *row = Row { lowest: MOST_ON_CARD, highest: 5, ..*row },
     }
 }
 
 fn spoil_results(prng: &mut Prng, plan: &mut Plan) {
-    // Sixty results stay, so that one more is the 61st.
+    // The most results stay, so that one more is too many.
     if prng.once_in(3) {
+        plan.lot.containers = plan.lot.containers.max(prng.pick(&[1, MOST_ON_CARD + 1]));
         let mut container = 0;
         while plan.results.len() < MOST_HELD && container < plan.lot.containers {
             container += 1;
@@ -251,23 +262,26 @@ fn some_frame(prng: &mut Prng) -> Frame {
 }
 
 /// Containers of a frame drawn for itself.
-const CONTAINERS: [u16; 11] = [0, 1, 2, 3, 4, 5, 6, 7, 60, 61, 65_535];
+const CONTAINERS: [u16; 11] = [0, 1, 2, 3, 4, 5, 6, 7, MOST_ON_CARD, MOST_ON_CARD + 1, 65_535];
 
 fn frame_of(prng: &mut Prng, kind: u8) -> Frame {
     match kind {
         1 => Frame::Lot(Lot {
             attribute: prng.pick(&[0, 1, 2, 2, 3]),
-            containers: prng.pick(&[0, 1, 5, 60, 61, 65_535]),
+            containers: prng.pick(&[0, 1, 5, MOST_ON_CARD, MOST_ON_CARD + 1, 65_535]),
         }),
         2 => Frame::Card {
             factor: prng.pick(&[9, 10, 10, 11, 50, 51]),
             offset: prng.pick(&[0, 10, 50, 51]),
             seeds: prng.pick(&[0, 0, 0, 1, 1_000, 1_000, 1_001]),
         },
-        3 => Frame::Critical { n: prng.pick(&[4, 5, 6, 7, 59, 60, 61]), value: prng.draw() as u16 },
+        3 => Frame::Critical {
+            n: prng.pick(&[4, 5, 6, 7, 61, MOST_ON_CARD, MOST_ON_CARD + 1]),
+            value: prng.draw() as u16,
+        },
         4 => Frame::Range(Row {
-            lowest: prng.pick(&[4, 5, 5, 6, 60]),
-            highest: prng.pick(&[5, 60, 60, 61]),
+            lowest: prng.pick(&[4, 5, 5, 6, MOST_ON_CARD]),
+            highest: prng.pick(&[5, 61, MOST_ON_CARD, MOST_ON_CARD + 1]),
             mean_bound: prng.pick(&[0, 9_999, 10_000, 10_000, 10_001]),
             tolerated: prng.draw() as u16,
         }),
@@ -281,7 +295,7 @@ fn frame_of(prng: &mut Prng, kind: u8) -> Frame {
             let weighing = if prng.once_in(3) { weighings::in_frame(prng) } else { often };
             Frame::Weighed { container, weighing }
         }
-        _ => Frame::End { count: prng.pick(&[0, 1, 2, 3, 4, 5, 60, 255]) },
+        _ => Frame::End { count: prng.pick(&[0, 1, 2, 3, 4, 5, MOST_ON_CARD, 255]) },
     }
 }
 
