@@ -30,7 +30,7 @@ static const char sheet[] = "01000028\n"
 /* Calls with a buffer of so many bytes, and prints the text where there is one. */
 static void print_text(const char *call, uint64_t (*function)(const uint8_t *, size_t, uint8_t *, size_t), size_t length, size_t size)
 {
-    uint8_t buffer[4096];
+    uint8_t buffer[GELVORIN_SHEET_ROOM];
     uint64_t answer = function((const uint8_t *)sheet, length, buffer, size);
 
     print(call, answer);
@@ -48,21 +48,21 @@ static void print_sheet(const char *call, uint64_t answer, const uint8_t *buffer
 
 static void print_enter(const char *call, size_t length, uint32_t container, uint32_t x, size_t size)
 {
-    uint8_t buffer[4096];
+    uint8_t buffer[GELVORIN_SHEET_ROOM];
 
     print_sheet(call, gelvorin_enter((const uint8_t *)sheet, length, container, x, buffer, size), buffer);
 }
 
 static void print_withdraw(const char *call, size_t length, uint32_t container, size_t size)
 {
-    uint8_t buffer[4096];
+    uint8_t buffer[GELVORIN_SHEET_ROOM];
 
     print_sheet(call, gelvorin_withdraw((const uint8_t *)sheet, length, container, buffer, size), buffer);
 }
 
 static void print_list(const char *call, size_t length, const char *list, size_t size)
 {
-    uint8_t buffer[4096];
+    uint8_t buffer[GELVORIN_SHEET_ROOM];
 
     print_sheet(call, gelvorin_enter_list((const uint8_t *)sheet, length, (const uint8_t *)list, strlen(list), buffer, size), buffer);
 }
@@ -88,24 +88,24 @@ int main(void)
     print("98 g and 2 g, steady", gelvorin_weighed(0, 0x42C40000, 0x40000000));
     print("98 g and 2 g, unsteady", gelvorin_weighed(1, 0x42C40000, 0x40000000));
     print("nothing weighed", gelvorin_weighed(0, 0, 0));
-    print_text("the sheet judged", gelvorin_judge, length, 4096);
+    print_text("the sheet judged", gelvorin_judge, length, GELVORIN_SHEET_ROOM);
     print_text("the sheet judged into 40 bytes", gelvorin_judge, length, 40);
-    print_text("the first 40 bytes of the sheet judged", gelvorin_judge, 40, 4096);
-    print_text("the sheet written back", gelvorin_rewrite, length, 4096);
+    print_text("the first 40 bytes of the sheet judged", gelvorin_judge, 40, GELVORIN_SHEET_ROOM);
+    print_text("the sheet written back", gelvorin_rewrite, length, GELVORIN_SHEET_ROOM);
     print_text("the sheet written back into 40 bytes", gelvorin_rewrite, length, 40);
-    print_text("the first 40 bytes of the sheet written back", gelvorin_rewrite, 40, 4096);
-    print_enter("98.50 entered for container 2", length, 2, 9850, 4096);
-    print_enter("98.50 entered for container 41", length, 41, 9850, 4096);
+    print_text("the first 40 bytes of the sheet written back", gelvorin_rewrite, 40, GELVORIN_SHEET_ROOM);
+    print_enter("98.50 entered for container 2", length, 2, 9850, GELVORIN_SHEET_ROOM);
+    print_enter("98.50 entered for container 41", length, 41, 9850, GELVORIN_SHEET_ROOM);
     print_enter("98.50 entered into 40 bytes", length, 2, 9850, 40);
-    print_enter("98.50 entered on the first 40 bytes", 40, 2, 9850, 4096);
-    print_withdraw("container 12 withdrawn", length, 12, 4096);
-    print_withdraw("container 13 withdrawn", length, 13, 4096);
+    print_enter("98.50 entered on the first 40 bytes", 40, 2, 9850, GELVORIN_SHEET_ROOM);
+    print_withdraw("container 12 withdrawn", length, 12, GELVORIN_SHEET_ROOM);
+    print_withdraw("container 13 withdrawn", length, 13, GELVORIN_SHEET_ROOM);
     print_withdraw("container 12 withdrawn into 40 bytes", length, 12, 40);
-    print_withdraw("container 12 withdrawn from the first 40 bytes", 40, 12, 4096);
-    print_list("a list entered", length, "2,98.5\n1,100\n", 4096);
-    print_list("a list with a bad line", length, "2,98.5\n1,.5\n", 4096);
-    print_list("a list with a container twice", length, "2,98.5\n4,97\n2,98.5\n", 4096);
+    print_withdraw("container 12 withdrawn from the first 40 bytes", 40, 12, GELVORIN_SHEET_ROOM);
+    print_list("a list entered", length, "2,98.5\n1,100\n", GELVORIN_SHEET_ROOM);
+    print_list("a list with a bad line", length, "2,98.5\n1,.5\n", GELVORIN_SHEET_ROOM);
+    print_list("a list with a container twice", length, "2,98.5\n4,97\n2,98.5\n", GELVORIN_SHEET_ROOM);
     print_list("a list entered into 40 bytes", length, "2,98.5\n", 40);
-    print_list("a list entered on the first 40 bytes", 40, "2,98.5\n", 4096);
+    print_list("a list entered on the first 40 bytes", 40, "2,98.5\n", GELVORIN_SHEET_ROOM);
     return 0;
 }

@@ -37,6 +37,9 @@ extern "C" {
 /// What is added to a refusal's number.
 const REFUSED: u64 = 1 << 32;
 
+/// The bytes of the longest sheet that is written.
+const SHEET_ROOM: usize = 5429;
+
 /// The parts of a refusal: its number, and the file and the line of a fault in a sheet or a list.
 fn number(answer: u64) -> u64 {
     answer & 0xFF
@@ -161,30 +164,30 @@ fn main() {
     print("98 g and 2 g, steady", weighed(0, 98.0, 2.0));
     print("98 g and 2 g, unsteady", weighed(1, 98.0, 2.0));
     print("nothing weighed", weighed(0, 0.0, 0.0));
-    print_text("the sheet judged", judge, SHEET, 4096);
+    print_text("the sheet judged", judge, SHEET, SHEET_ROOM);
     print_text("the sheet judged into 40 bytes", judge, SHEET, 40);
-    print_text("the first 40 bytes of the sheet judged", judge, &SHEET[..40], 4096);
-    print_text("the sheet written back", rewrite, SHEET, 4096);
+    print_text("the first 40 bytes of the sheet judged", judge, &SHEET[..40], SHEET_ROOM);
+    print_text("the sheet written back", rewrite, SHEET, SHEET_ROOM);
     print_text("the sheet written back into 40 bytes", rewrite, SHEET, 40);
-    print_text("the first 40 bytes of the sheet written back", rewrite, &SHEET[..40], 4096);
+    print_text("the first 40 bytes of the sheet written back", rewrite, &SHEET[..40], SHEET_ROOM);
     let in_2 = |sheet: &[u8], buffer: &mut [u8]| enter(sheet, 2, 9850, buffer);
-    print_text("98.50 entered for container 2", in_2, SHEET, 4096);
+    print_text("98.50 entered for container 2", in_2, SHEET, SHEET_ROOM);
     let in_41 = |sheet: &[u8], buffer: &mut [u8]| enter(sheet, 41, 9850, buffer);
-    print_text("98.50 entered for container 41", in_41, SHEET, 4096);
+    print_text("98.50 entered for container 41", in_41, SHEET, SHEET_ROOM);
     print_text("98.50 entered into 40 bytes", in_2, SHEET, 40);
-    print_text("98.50 entered on the first 40 bytes", in_2, &SHEET[..40], 4096);
+    print_text("98.50 entered on the first 40 bytes", in_2, &SHEET[..40], SHEET_ROOM);
     let out_12 = |sheet: &[u8], buffer: &mut [u8]| withdraw(sheet, 12, buffer);
-    print_text("container 12 withdrawn", out_12, SHEET, 4096);
+    print_text("container 12 withdrawn", out_12, SHEET, SHEET_ROOM);
     let out_13 = |sheet: &[u8], buffer: &mut [u8]| withdraw(sheet, 13, buffer);
-    print_text("container 13 withdrawn", out_13, SHEET, 4096);
+    print_text("container 13 withdrawn", out_13, SHEET, SHEET_ROOM);
     print_text("container 12 withdrawn into 40 bytes", out_12, SHEET, 40);
-    print_text("container 12 withdrawn from the first 40 bytes", out_12, &SHEET[..40], 4096);
+    print_text("container 12 withdrawn from the first 40 bytes", out_12, &SHEET[..40], SHEET_ROOM);
     let list = |list: &'static str| {
         move |sheet: &[u8], buffer: &mut [u8]| enter_list(sheet, list.as_bytes(), buffer)
     };
-    print_text("a list entered", list("2,98.5\n1,100\n"), SHEET, 4096);
-    print_text("a list with a bad line", list("2,98.5\n1,.5\n"), SHEET, 4096);
-    print_text("a list with a container twice", list("2,98.5\n4,97\n2,98.5\n"), SHEET, 4096);
+    print_text("a list entered", list("2,98.5\n1,100\n"), SHEET, SHEET_ROOM);
+    print_text("a list with a bad line", list("2,98.5\n1,.5\n"), SHEET, SHEET_ROOM);
+    print_text("a list with a container twice", list("2,98.5\n4,97\n2,98.5\n"), SHEET, SHEET_ROOM);
     print_text("a list entered into 40 bytes", list("2,98.5\n"), SHEET, 40);
-    print_text("a list entered on the first 40 bytes", list("2,98.5\n"), &SHEET[..40], 4096);
+    print_text("a list entered on the first 40 bytes", list("2,98.5\n"), &SHEET[..40], SHEET_ROOM);
 }

@@ -36,6 +36,9 @@ extern "C" {
 #define GELVORIN_FILE(answer) ((uint32_t)((answer) >> 8 & 0xFF))
 #define GELVORIN_LINE(answer) ((uint32_t)((answer) >> 16 & 0xFFFF))
 
+/* The bytes of the longest sheet that is written. One that is read has up to 8229, where its results are weighed. */
+#define GELVORIN_SHEET_ROOM 5429
+
 /* The number of primary samples for a number of containers of so many whole kilograms each (ISTA 2.5.1.2).
  * Refused with 17, outside the table: either is 0 or above 65535. */
 uint64_t gelvorin_samples(uint32_t containers, uint32_t kilograms);
@@ -71,19 +74,19 @@ uint64_t gelvorin_weighed(uint32_t status, uint32_t component, uint32_t remainde
 uint64_t gelvorin_judge(const uint8_t *sheet, size_t length, uint8_t *buffer, size_t size);
 
 /* Reads a sheet and writes it back: its frames in their order, the results in ascending container order, each as 05, weighed or not.
- * 2629 bytes are room for every sheet that is written; one that is read has up to 3469. Answers the length of what was written to the
- * front of the buffer; the bytes behind it stay as they were.
+ * GELVORIN_SHEET_ROOM bytes are room for every sheet that is written. Answers the length of what was written to the front of the
+ * buffer; the bytes behind it stay as they were.
  * Refused with the number of the sheet's first fault (1 to 9, 14, 18, 19), or with 16, buffer short; then the buffer stays as it was. */
 uint64_t gelvorin_rewrite(const uint8_t *sheet, size_t length, uint8_t *buffer, size_t size);
 
 /* The calls on a sheet. A host keeps the state of a lot as its sheet: each call reads it, makes one call on its tally and writes the sheet
- * after it, as gelvorin_rewrite does, so the sheet that one call wrote is what the next is given. 2629 bytes are room for every sheet
- * that is written. Each answers the length of the sheet, which stands at the front of the buffer; the bytes behind it stay as they were.
+ * after it, as gelvorin_rewrite does, so the sheet that one call wrote is what the next is given, and GELVORIN_SHEET_ROOM bytes are room
+ * for it. Each answers the length of the sheet, which stands at the front of the buffer; the bytes behind it stay as they were.
  * Where a call is refused, the buffer stays as it was. The first refusal that applies is told, in this order: the sheet's first fault,
  * with file 1 and its line (1 to 9, 14, 18, 19); that of the call; 16, buffer short. */
 
 /* Enters a result: x for a container, in hundredths of a percent or in whole seeds.
- * Refused with 6, no such container: 0 or above the number of containers; 7, result too high: above 10000; 8, already held; 9, full: 60
+ * Refused with 6, no such container: 0 or above the number of containers; 7, result too high: above 10000; 8, already held; 9, full: 200
  * results are held. These have neither file nor line. */
 uint64_t gelvorin_enter(const uint8_t *sheet, size_t length, uint32_t container, uint32_t x, uint8_t *buffer, size_t size);
 
