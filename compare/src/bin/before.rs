@@ -1,5 +1,5 @@
-//! Holds the programs of the landing before against those of now: a sheet that is not too large for the programs before
-//! is reported, and written back, as it was.
+//! Holds the programs of the landing before point 7 of document 02, with room for 60 results, against those of now: a
+//! sheet that is not too large for the programs before is reported, and written back, as it was.
 //!
 //!     before FOLDER_BEFORE FOLDER_NOW [SHEETS [SEED]]
 //!
