@@ -6,7 +6,7 @@ ghost use Rattle.std.specs.Prelude.{◌≡◌, List, ℕ, ◌≤◌, length, tak
 ghost use Rattle.rules.specs.Limits.{list_places};
 ghost use Rattle.rules.specs.Printing.{ended_bytes, enter_prints};
 ghost use Rattle.buffers.specs.Counts.{IsPrefixLen};
-ghost use Rattle.program_input.specs.Input.{IsSheetOf};
+ghost use Rattle.program_input.specs.Input.{BeginsWith, IsSheetOf};
 ghost use Rattle.lotenter.specs.Entering.{entered_part, ShowsEntered};
 
 use program_input::SHEET;
@@ -54,11 +54,27 @@ fn enter_lines(sheet: &[u8], lines: &[u8], whole: bool, text: &mut [u8]) -> usiz
 }
 
 // The text to every sheet and every list of which these bytes were read: as many of the first as there are places for, or all.
-fn answer(sheet: &[u8], list: &[u8], text: &mut [u8; TEXT]) -> usize
+fn text_to(sheet: &[u8], list: &[u8], text: &mut [u8; TEXT]) -> usize
     ensures by_index { (s l : List ℕ) → IsSheetOf s sheet.now → list.now ≡ take list_places l → take result text.new ≡ enter_prints s l }
     ensures prefix_len { IsPrefixLen result text.new }
 {
     enter_lines(sheet, lines_of(list), list.len() < LIST, text)
+}
+
+// The text to every sheet and every list that begin with the bytes that were read of them, the first `m` and the first `n` of the
+// buffers, and its length. The buffers are cut here, and not in `main`, whose reads and writes no contract speaks of.
+fn answer(
+    sheet: &[u8; SHEET],
+    m: usize,
+    list: &[u8; LIST],
+    n: usize,
+    text: &mut [u8; TEXT],
+) -> usize
+    ensures by_index { (s l : List ℕ) → BeginsWith s sheet.now m → BeginsWith l list.now n → take result text.new ≡ enter_prints s l }
+    ensures prefix_len { IsPrefixLen result text.new }
+{
+    let lines = program_input::front(list, n);
+    text_to(program_input::sheet_of(sheet, m), lines, text)
 }
 
 // The bytes of the file that the word with this place names, as many as fit; none where it is not named or cannot be read.
@@ -76,10 +92,6 @@ fn main(rt: HostRuntime) -> io::Result<()> {
     let mut text: [u8; TEXT] = buffers::zeroed();
     let m = read_file(&rt, 1, &mut sheet);
     let n = read_file(&rt, 2, &mut list);
-    let size = answer(
-        program_input::sheet_of(&sheet, m),
-        program_input::front(&list, n),
-        &mut text,
-    );
+    let size = answer(&sheet, m, &list, n, &mut text);
     rt.write_all(&text[..size])
 }

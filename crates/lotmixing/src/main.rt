@@ -1,9 +1,10 @@
 // lotmixing TOLERATED X X ..: prints `mixable` or `not mixable`, for component lots with the results X and a tolerated R.
 #![tactic(auto)]
 
-ghost use Rattle.std.specs.Prelude.{◌≡◌, List, ℕ, ◌-◌};
+ghost use Rattle.std.specs.Prelude.{◌≡◌, List, ℕ, ◌-◌, take};
 ghost use Rattle.buffers.specs.Counts.{IsPrefixLen};
 ghost use Rattle.decimal.specs.Laying.{Laid};
+ghost use Rattle.program_words.specs.Given.{GivenAs};
 ghost use Rattle.program_words.specs.Saying.{test_said};
 ghost use Rattle.program_lines.specs.Printing.{said_to_mixing, mixing_prints};
 ghost use Rattle.lotmixing.specs.Listing.{KeptOf, Adds, OneMore, ReadOf, said_to_numbers};
@@ -18,12 +19,20 @@ use std::rt::Env;
 
 // The numbers of the words so far and of one word more; none where a word is no number.
 #[tactic(auto, using(crate::proofs::KeepingLaws::keeping))]
-fn with_word(numbers: Option<Numbers>, word: &[u8]) -> Option<Numbers>
+fn with_bytes(numbers: Option<Numbers>, word: &[u8]) -> Option<Numbers>
     ensures { Adds word.now numbers result }
 {
     let numbers = numbers?;
     let x = decimal_words::number(word)?;
     Some(numbers.with(x))
+}
+
+// One word more, which stands in the first `n` bytes of a buffer.
+fn with_word(numbers: Option<Numbers>, buffer: &[u8; WORD], n: usize) -> Option<Numbers>
+    ensures adds { Adds (take n buffer.now) numbers result }
+    ensures by_index { (word : List ℕ) → GivenAs word buffer.now n → Adds word numbers result }
+{
+    with_bytes(numbers, program_words::word(buffer, n))
 }
 
 // What is said to numbers: the first is the tolerated R.
@@ -64,7 +73,7 @@ fn with_argument(rt: &impl Env, numbers: Option<Numbers>, i: usize) -> Option<Nu
 {
     let mut buffer = buffers::zeroed::<WORD>();
     let n = buffers::word(rt, i, &mut buffer);
-    with_word(numbers, program_words::word(&buffer, n))
+    with_word(numbers, &buffer, n)
 }
 
 // All arguments, of which there are `arguments` with the program's own name.

@@ -1,12 +1,6 @@
-use Rattle.std.proofs.Common.{arith}
-use Rattle.rules.specs.Printing.{listed_for}
-use Rattle.program_input.proofs.Beginning.{sheet_says}
-use Rattle.program_input.proofs.Texts.{laid_text}
 use Rattle.lotlist.proofs.answer.Goals as goal
 
 pub returns : goal.returns
-unfolding listed_for
 returns c =
-    let printed = c.print in
-    let laid = laid_text _ _ _ printed.result _ c.unwrap_or.ensures printed.ensures.text (omega (arith, printed.ensures.most)) printed.auto.buf in
-    record { by_index = λ input begins. rw (sheet_says input c.args.sheet.now begins) at laid.0; prefix_len = laid.1 }
+    let said = c.text_to.ensures in
+    record { by_index = λ input begins. said.by_index input (c.sheet_of.ensures.sheet input begins); prefix_len = said.prefix_len }

@@ -1,12 +1,6 @@
-use Rattle.std.proofs.Common.{arith}
-use Rattle.rules.specs.Printing.{printed_for}
-use Rattle.reading_theorems.proofs.Longest.{printed_most}
-use Rattle.program_input.proofs.Beginning.{sheet_says}
-use Rattle.program_input.proofs.Texts.{laid_text}
 use Rattle.lotreport.proofs.answer.Goals as goal
 
 pub returns : goal.returns
-unfolding printed_for
 returns c =
-    let laid = laid_text _ _ _ c.judge.result _ c.unwrap_or.ensures c.judge.ensures (omega (arith, printed_most c.args.sheet.now)) c.judge.auto.buf in
-    record { by_index = λ input begins. rw (sheet_says input c.args.sheet.now begins) at laid.0; prefix_len = laid.1 }
+    let said = c.text_to.ensures in
+    record { by_index = λ input begins. said.by_index input (c.sheet_of.ensures.sheet input begins); prefix_len = said.prefix_len }

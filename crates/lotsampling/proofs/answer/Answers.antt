@@ -1,14 +1,6 @@
-use Rattle.std.proofs.Common.{rules, arith}
-use Rattle.rules.specs.Text.{text, decimal}
-use Rattle.rules.proofs.TextLaws.{length_decimal}
-use Rattle.program_words.specs.Saying.{number_said}
-use Rattle.program_lines.specs.Printing.{sampling_prints}
-use Rattle.program_lines.proofs.LineLaws.{line_answers}
 use Rattle.lotsampling.proofs.answer.Goals as goal
 
-pub returns-clause-text : goal.returns-clause-text
-unfolding sampling_prints
-returns-clause-text c =
-    let line = line_answers (text "usage: lotsampling CONTAINERS KILOGRAMS") decimal (number_said c.said_to-said.result) c.number_line.ensures (search rules) (omega arith)
-    (λ v. omega (arith, length_decimal v)) in
-    line.0 _ (rw c.two_numbers-words.ensures at c.said_to-said.ensures)
+pub returns : goal.returns
+returns c =
+    let said = c.line_to.ensures in
+    record { by_index = λ v w f g. rw (c.word-v.ensures.by_index v f, c.word-w.ensures.by_index w g) at said.text; prefix_len = said.prefix_len }
