@@ -76,8 +76,8 @@ agrees (withdrawn {k = k} {e = e} κ t u r o) =
 agrees (joined {e = e} κ₁ κ₂ t u o r q j) =
     let i = agrees r in
     let h = agrees q in
-    let f = further e u.now _ (j.right (i.sound, h.sound) ∙ ap₂ (λ (f g : Ledger). join_on f g) i.same h.same) i.judged in
-    record { same = f.0; judged = f.1; sound = j.sound (i.sound, h.sound) }
+    let f = further e u.now _ (j.answers.right (i.sound, h.sound) ∙ ap₂ (λ (f g : Ledger). join_on f g) i.same h.same) i.judged in
+    record { same = f.0; judged = f.1; sound = j.answers.sound (i.sound, h.sound) }
 agrees (listed {e = e} κ₁ κ₂ t u list r x) =
     let i = agrees r in
     let f = x.right i.sound ∙ ap (λ (g : Ledger). list_on g list.now) i.same in

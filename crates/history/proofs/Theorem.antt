@@ -64,7 +64,8 @@ order_is_free cs ds ns ms t u p q e =
       joins = λ κ₁ κ₂ κ₃ κ₄ o v f h d r w x y a b.
           let m = agrees f in
           let n = agrees h in
-          a.right (i.sound, m.sound) ∙ (ap₂ (λ (x y : Ledger). join_on x y) s (m.same ∙ (d ∙ sym n.same)) ∙ sym (b.right (j.sound, n.sound)));
+          a.answers.right (i.sound, m.sound)
+          ∙ (ap₂ (λ (x y : Ledger). join_on x y) s (m.same ∙ (d ∙ sym n.same)) ∙ sym (b.answers.right (j.sound, n.sound)));
       lists = λ κ₁ κ₂ κ₃ κ₄ l₁ l₂ e r w x y a b.
           a.right i.sound ∙ (ap₂ (λ (g : Ledger) (l : List ℕ). list_on g l) s e ∙ sym (b.right j.sound));
       writes = λ κ₁ κ₂ b₁ b₂ l r₁ r₂ a₁ a₂ x y.

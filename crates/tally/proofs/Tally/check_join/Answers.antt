@@ -8,16 +8,16 @@ pub returns-then-meet : goal.returns-then-meet
 returns-then-meet c =
     let t = c.args.self.now in
     let o = c.args.other.now in
-    let a = c.held_containers.ensures in
-    let b = c.held_containers-2.ensures in
+    let a = c.held_containers-held.ensures in
+    let b = c.held_containers-others.ensures in
     join_shared t o (sym c.is_alike.ensures ∙ c.if-not-is_alike.false) _ (c.meet.ensures t.results ∙ met_in t o _ _ a.0 a.1 b.0 b.1) c.if-meet.true
 
 pub returns-then-self-other-gt-MOST_HELD : goal.returns-then-self-other-gt-MOST_HELD
 returns-then-self-other-gt-MOST_HELD c =
     let t = c.args.self.now in
     let o = c.args.other.now in
-    let a = c.held_containers.ensures in
-    let b = c.held_containers-2.ensures in
+    let a = c.held_containers-held.ensures in
+    let b = c.held_containers-others.ensures in
     join_many t o (sym c.is_alike.ensures ∙ c.if-not-is_alike.false) _ (c.meet.ensures t.results ∙ met_in t o _ _ a.0 a.1 b.0 b.1) c.if-meet.false
     (rw capacity c.if-self-other-gt-MOST_HELD.true)
 
@@ -25,7 +25,7 @@ pub returns : goal.returns
 returns c =
     let t = c.args.self.now in
     let o = c.args.other.now in
-    let a = c.held_containers.ensures in
-    let b = c.held_containers-2.ensures in
+    let a = c.held_containers-held.ensures in
+    let b = c.held_containers-others.ensures in
     join_good t o (sym c.is_alike.ensures ∙ c.if-not-is_alike.false) _ (c.meet.ensures t.results ∙ met_in t o _ _ a.0 a.1 b.0 b.1) c.if-meet.false
     (rw capacity c.if-self-other-gt-MOST_HELD.false)

@@ -1,15 +1,12 @@
--- `tally::Tally::weigh` meets its promise: out of turn, the enter of an X, or a weighing that has none. Assumes nothing.
-use mathlib.Core.Path.{sym, ap, ◌∙◌}
-use Prim.Native.Nat.{ℕ}
-use borrow.Author.Tests.{eq-eqb}
-use Rattle.rules.specs.Numbers.{answer_of}
-use Rattle.rules.specs.Weights.{weighing_of}
-use Rattle.rules.proofs.RefusalLaws.{never_zero}
-use Rattle.tally.proofs.Steps.{weighs_refused}
+-- `tally::Tally::weigh` meets its promise: one place more, or the very tally. Assumes nothing.
+use Rattle.std.proofs.Common.{rules}
+use Rattle.rules.proofs.RefusalLaws.{passed_on}
+use Rattle.rules.proofs.Capacity.{capacity}
+use Rattle.tally.proofs.Steps.{not_stored, stored_one}
 use Rattle.tally.proofs.Tally.weigh.Goals as goal
 
-pub returns-in-Err : goal.returns-in-Err
-returns-in-Err c =
-    let a = c.args in
-    weighs_refused _ a.container a.status a.pans _ (eq-eqb _ 0 c.if-self-ne0.false) _
-    (ap (λ (n : ℕ). weighing_of n a.pans) (sym c.from.ensures) ∙ ap answer_of (sym c.in-Err.ensures)) (never_zero _) c.unweighed.ensures
+pub returns-in_err-weigh_in : goal.returns-in_err-weigh_in
+returns-in_err-weigh_in c = rw (passed_on c.from_residual.ensures.1) (not_stored _ _ _ _ _ _ _ _ c.in_err-weigh_in.ensures)
+
+pub returns : goal.returns
+returns c = rw c.count_one_more.ensures (stored_one _ _ _ _ _ _ _ (search (rules, capacity)) c.in_ok-weigh_in.ensures)
