@@ -84,7 +84,9 @@ fn judgement(a: Attribute, c: Card, f: Figures, printed: u32) -> Judgement
     ensures { result ≡ judgement_of a c f }
 {
     let scale = a.mean_scale(f.count);
-    let critical = verdicts::critical_at(c.critical[usize::from(f.count)]);
+    // Read out of the card itself, the one value would have the whole card copied.
+    let criticals = c.critical;
+    let critical = verdicts::critical_at(criticals[usize::from(f.count)]);
     let tolerated = verdicts::tolerated_for(c, f.count, printed, scale);
     let h = h_value(values::ratio(a, c.head, f), c.head.offset, critical);
     let r = r_value(a, f, tolerated);

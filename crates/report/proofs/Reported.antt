@@ -11,8 +11,7 @@ use lib.Dec.{ltb}
 use lib.ListN.{length, take, drop}
 use lib.Seq.{get_or-take}
 use borrow.Author.Tests.{lt-ltb, le-ltb}
-use denote.Ref.{Bor}
-use Rattle.std.specs.Prelude.{Option, Some, None, Result, Err, MatchOption}
+use Rattle.std.specs.Prelude.{Some, None, Result, Err}
 use Rattle.rules.specs.Choice.{pick}
 use Rattle.rules.specs.Limits.{least_reported}
 use Rattle.rules.specs.Numbers.{TextAnswer, text_answer, wrote, refuses_text}
@@ -55,23 +54,10 @@ findings_cut : (a : Attribute) (c : Card) (f : Figures) → findings_of a (cut_t
 unfolding findings_of
 findings_cut a c f = simp (tolerated_cut c f.count (printed_mean a f) c.rows (le_refl c.rows))
 
--- ---- what is found
--- of the held results; nothing, where the list has not so many
-pub record Finds (t : Tally) (a : Attribute) (o : Option Findings) : Type 0 where
-  pub within : t.held ≤ length t.results → o ≡ found_of a t.card (kept t)
-  pub past : length t.results < t.held → o ≡ None
-
--- the places that count, where the list has so many
-abbrev pub Front : Tally → Option (Bor (List ℕ)) → Type 0
-Front t g = MatchOption g (length t.results < t.held) (λ s. (t.held ≤ length t.results) × (s.now ≡ take t.held t.results))
-
-abbrev pub FoundOf : Tally → Attribute → Option (Bor (List ℕ)) → Option Findings → Type 0
-FoundOf t a g o = MatchOption g (o ≡ None) (λ s. o ≡ found_of a t.card (with_sums t.sum t.squares (figures_of (length s.now) (in_order s.now))))
-
-pub finds : (t : Tally) (a : Attribute) (g : Option (Bor (List ℕ))) (o : Option Findings) → Front t g → FoundOf t a g o → Finds t a o
-finds t a None o h e = record { within = λ k. absurd (omega arith); past = λ k. e }
-finds t a (Some s) o h e =
-    record { within = λ k. e ∙ rw h.1 (ap (λ (f : Figures). found_of a t.card (with_sums t.sum t.squares f)) (figures_taken t.results t.held k)); past = λ k. absurd (omega arith) }
+-- ---- what is found of the held results, where the list has so many
+pub found_held : (t : Tally) (a : Attribute) (vs : List ℕ) → t.held ≤ length t.results → vs ≡ take t.held t.results
+    → found_of a t.card (with_sums t.sum t.squares (figures_of (length vs) (in_order vs))) ≡ found_of a t.card (kept t)
+found_held t a vs k h = rw h (ap (λ (f : Figures). found_of a t.card (with_sums t.sum t.squares f)) (figures_taken t.results t.held k))
 
 reportable_of : (b : Bool) (x s : Findings) → pick b (Some x) None ≡ Some s → (b ≡ true) × (x ≡ s)
 reportable_of true x s e = (refl, cc)
@@ -90,9 +76,9 @@ kept_behind t d o e = rw e (by (ltb (length d) (length t)))
     by true = refl
     by false = drop_laid t d
 
-module _ (t : Tally) (a : Attribute) (o : Option Findings) (lot : a ≡ attribute_of t.lot.attribute) (e : Finds t a o) where
+module _ (t : Tally) (a : Attribute) (lot : a ≡ attribute_of t.lot.attribute) where
   -- nothing was found: a sound tally holds too few results
-  pub too_few : (before : List ℕ) → o ≡ None → Reports t before (Err TooFew) before
+  pub too_few : (before : List ℕ) → found_of a t.card (kept t) ≡ None → Reports t before (Err TooFew) before
   too_few before q =
       record {
         right = λ s. rw (size_is_lem t s, lt-ltb t.held least_reported (few s (dec_le least_reported t.held))) refl;
@@ -101,18 +87,15 @@ module _ (t : Tally) (a : Attribute) (o : Option Findings) (lot : a ≡ attribut
       }
     where
       few : Sound t → Dec (least_reported ≤ t.held) → t.held < least_reported
-      few s (yes h) =
-          let found = e.within (omega (arith, s.small, s.values)) in
-          absurd (true≢false (sym (sound_reportable t s h) ∙ not_reportable_of _ _ (sym found ∙ q)))
+      few s (yes h) = absurd (true≢false (sym (sound_reportable t s h) ∙ not_reportable_of _ _ q))
       few s (no h) = omega arith
 
   -- the findings have the text of the ledger's report
-  pub written : (found : Findings) (before after : List ℕ) (r : Result ℕ Refusal) → o ≡ Some found
+  pub written : (found : Findings) (before after : List ℕ) (r : Result ℕ Refusal) → found_of a t.card (kept t) ≡ Some found
       → (text_answer r after ≡ laid_in (findings_text found) before) × ((e : Refusal) → r ≡ Err e → e ≡ BufferShort)
       → Reports t before r after
   written found before after r q l =
-      let here = within (dec_le t.held (length t.results)) in
-      let w = reportable_of (reportable t.card (kept t)) (findings_of a t.card (kept t)) found (sym (e.within here) ∙ q) in
+      let w = reportable_of (reportable t.card (kept t)) (findings_of a t.card (kept t)) found q in
       let enough = reportable_enough t.card (kept t) w.0 in
       let many : least_reported ≤ t.held = omega (arith, count_in_order t.results t.held) in
       let text_is : Sound t → report_of (view t) ≡ findings_text found = λ s. rw (kept_are t s, findings_cut, ← lot, w.1) refl in
@@ -121,7 +104,3 @@ module _ (t : Tally) (a : Attribute) (o : Option Findings) (lot : a ≡ attribut
         which = λ e k. inr (l.1 e k);
         kept = kept_behind (findings_text found) before (text_answer r after) l.0;
       }
-    where
-      within : Dec (t.held ≤ length t.results) → t.held ≤ length t.results
-      within (yes h) = h
-      within (no h) = let none = e.past (omega arith) in cc

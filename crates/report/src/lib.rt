@@ -13,10 +13,13 @@ pub fn report(t: Tally, buf: &mut [u8]) -> Result<usize, Refusal>
     ensures { Reports t buf.old result buf.new }
 {
     let attribute = Attribute::from(t.lot.attribute);
-    let found = t
-        .results
-        .get(..t.held)
-        .and_then(|held| findings::of_lot(attribute, t.card, held, t.sum, t.squares))
-        .ok_or(Refusal::TooFew)?;
-    report_lines::five_lines(buf, found)
+    // Lent out of the tally itself, the results would have the whole tally copied.
+    let results = t.results;
+    let Some(held) = results.get(..t.held) else {
+        return Err(Refusal::TooFew);
+    };
+    match findings::of_lot(attribute, t.card, held, t.sum, t.squares) {
+        Some(found) => report_lines::five_lines(buf, found),
+        None => Err(Refusal::TooFew),
+    }
 }

@@ -34,7 +34,9 @@ fn number_line(buf: &mut [u8], name: &[u8], places: u8, n: u64, side: Side) -> u
     decimal::bytes(buf, c, b"\n")
 }
 
-// H 1.55+ 1.55 over; R likewise, without a mark.
+// H 1.55+ 1.55 over; R likewise, without a mark. Inlined: a call would need the value in memory, and each function that answers it or a
+// struct with it would copy it there once more, with the bytes between its fields.
+#[inline(always)]
 fn value_line(buf: &mut [u8], name: &[u8], v: Value) -> usize
     ensures { LaysLine (value_line name.now v) buf.old buf.new result }
 {

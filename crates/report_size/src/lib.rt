@@ -26,7 +26,8 @@ fn limit_size(places: u8, limit: Option<u32>) -> usize
     }
 }
 
-// The line of H or of R, with its name.
+// The line of H or of R, with its name. Inlined, as the writer of that line is.
+#[inline(always)]
 #[tactic(auto, unfolding(rules::specs::Report::value_line))]
 fn value_size(v: Value) -> usize
     ensures { (result ≡ length (value_line (text "H ") v)) × (result ≡ length (value_line (text "R ") v)) × (result ≤ 700) }

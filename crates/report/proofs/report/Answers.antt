@@ -1,22 +1,19 @@
 -- `report::report` meets its contract. Assumes nothing.
-use mathlib.Core.Path.{◌≡◌}
-use Rattle.std.proofs.Common.{rules}
-use Rattle.std.specs.Prelude.{Err}
-use Rattle.rules.specs.declared.Refusal.TheVariants.{TooFew}
-use Rattle.report.proofs.Reported.{Front, FoundOf, finds, too_few, written}
+use mathlib.Core.Path.{◌≡◌, sym, ◌∙◌}
+use Rattle.std.proofs.Common.{rules, take}
+use Rattle.report.proofs.Reported.{found_held, too_few, written}
 use Rattle.report.proofs.report.Goals as goal
 
-pub returns-in_err-found : goal.returns-in_err-found
-returns-in_err-found c =
+pub returns-in-Some-of_lot : goal.returns-in-Some-of_lot
+returns-in-Some-of_lot c =
     let t = c.args.t in
-    let front : Front t c.get.result = search rules in
-    let found : FoundOf t c.from-attribute.result c.get.result c.and_then.result = search rules in
-    let told : c.from_residual.result ≡ Err TooFew = search rules in
-    rw told (too_few t _ _ c.from-attribute.ensures (finds t _ _ _ front found) _ c.in_err-found.ensures.ok_part)
+    let held : c.in-Some.held.now ≡ take t.held t.results = search rules in
+    let found = found_held t c.from-attribute.result _ c.in-Some.ensures.lookup.0.1 held in
+    written t _ c.from-attribute.ensures _ _ _ _ (sym found ∙ sym c.of_lot.ensures ∙ c.in-Some-of_lot.is) c.five_lines.ensures
 
-pub returns : goal.returns
-returns c =
+pub returns-in-None : goal.returns-in-None
+returns-in-None c =
     let t = c.args.t in
-    let front : Front t c.get.result = search rules in
-    let found : FoundOf t c.from-attribute.result c.get.result c.and_then.result = search rules in
-    written t _ _ c.from-attribute.ensures (finds t _ _ _ front found) _ _ _ _ c.in_ok-found.ensures.ok_part c.five_lines.ensures
+    let held : c.in-Some.held.now ≡ take t.held t.results = search rules in
+    let found = found_held t c.from-attribute.result _ c.in-Some.ensures.lookup.0.1 held in
+    too_few t _ c.from-attribute.ensures _ (sym found ∙ sym c.of_lot.ensures ∙ c.in-None.is)
