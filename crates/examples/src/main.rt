@@ -6,8 +6,9 @@ mod cases;
 mod files;
 mod printed;
 
-use cases::comes_out;
+use cases::{comes_out, is_text};
 use files::Case;
+use program_input::SHEET;
 use std::rt::Files;
 use std::{fmt, io};
 
@@ -49,8 +50,29 @@ fn group<F: Fn(Case) -> bool>(letter: char, count: usize, is_right: F) -> Tried
 
 // Whether the sheet of a case is judged as its text says: all of it, and as much as lotreport reads.
 fn is_judged(rt: &impl Files, case: Case) -> bool {
-    comes_out(rt, case, |sheet, _, buf| judge::judge(sheet, buf))
-        & comes_out(rt, case, |sheet, _, buf| printed::front_judged(sheet, buf))
+    let mut places = buffers::zeroed::<65536>();
+    comes_out(rt, case, &mut places, |sheet, text, buf| {
+        is_text(judge::judge(sheet, buf), buf, text)
+            & is_text(printed::front_judged(sheet, buf), buf, text)
+    })
+}
+
+// Whether the list of a case is entered in its sheet as its text says.
+fn is_entered(rt: &impl Files, case: Case) -> bool {
+    let mut list = buffers::zeroed::<4096>();
+    let l = case.read(rt, ".list", &mut list);
+    let mut places = buffers::zeroed::<SHEET>();
+    comes_out(rt, case, &mut places, |sheet, text, buf| {
+        is_text(printed::entered(sheet, &list[..l], buf), buf, text)
+    })
+}
+
+// Whether the results of the sheet of a case are written as its text says.
+fn is_written(rt: &impl Files, case: Case) -> bool {
+    let mut places = buffers::zeroed::<SHEET>();
+    comes_out(rt, case, &mut places, |sheet, text, buf| {
+        is_text(sheet_list::print(sheet, buf), buf, text)
+    })
 }
 
 fn main(rt: HostRuntime) -> io::Result<()> {
@@ -60,9 +82,9 @@ fn main(rt: HostRuntime) -> io::Result<()> {
     println!(rt; "sheets that mislead: {misleading}")?;
     let vectors = group('v', 220, |case| is_judged(&rt, case));
     println!(rt; "sheets of the vectors: {vectors}")?;
-    let entered = group('e', 120, |case| comes_out(&rt, case, printed::entered));
+    let entered = group('e', 120, |case| is_entered(&rt, case));
     println!(rt; "lists of the vectors entered: {entered}")?;
-    let written = group('l', 40, |case| comes_out(&rt, case, printed::written));
+    let written = group('l', 40, |case| is_written(&rt, case));
     println!(rt; "lists of the vectors written: {written}")?;
     let lists = entered.with(written);
     let all = handbook.with(misleading).with(vectors).with(lists);

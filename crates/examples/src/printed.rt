@@ -7,11 +7,6 @@ pub fn front_judged(sheet: &[u8], buf: &mut [u8]) -> Result<usize, Refusal> {
     judge::judge(&sheet[..sheet.len().min(SHEET)], buf)
 }
 
-// The list of a sheet's results, or the line of its first fault: what lotlist prints.
-pub fn written(sheet: &[u8], _list: &[u8], buf: &mut [u8]) -> Result<usize, Refusal> {
-    sheet_list::print(sheet, buf)
-}
-
 // The sheet with a list entered, or the line of the first fault: what lotenter prints. A call that lays the line for both would only
 // promise what `print_fault` does.
 pub fn entered(sheet: &[u8], list: &[u8], buf: &mut [u8]) -> Result<usize, Refusal> {
