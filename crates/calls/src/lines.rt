@@ -19,7 +19,9 @@ fn is_blank(b: &u8) -> bool {
 }
 
 // The first word, and what stands behind it.
-fn cut(text: &[u8]) -> (&[u8], &[u8]) {
+fn cut(text: &[u8]) -> (&[u8], &[u8])
+    ensures { length result.1.now ≤ length text.now }
+{
     text.split_at(text.iter().position(is_blank).unwrap_or(text.len()))
 }
 
@@ -39,7 +41,9 @@ pub fn read(line: &[u8]) -> CallLine<'_> {
 }
 
 // What stands behind the first of a line's words.
-fn behind_first(words: &[u8]) -> &[u8] {
+fn behind_first(words: &[u8]) -> &[u8]
+    ensures { length result.now ≤ length words.now }
+{
     match words {
         [_, rest @ ..] => cut(rest).1,
         [] => words,

@@ -11,7 +11,7 @@ ghost use Rattle.codes.specs.Codes.{refusal_code, size_code, fault_code, call_co
 use rules::{Fault, Refusal, WIDEST};
 
 // What is added to a refusal's number.
-const REFUSED: u64 = 4294967296;
+pub const REFUSED: u64 = 4294967296;
 
 // The code of a call that gives a number or a test: its value where it is not refused.
 pub fn answer_code<T: Into<u64>>(answer: Result<T, Refusal>) -> u64
